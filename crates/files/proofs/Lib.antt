@@ -1,0 +1,4 @@
+pub mod Chains
+pub mod Filling
+pub mod Left
+pub mod Passed

@@ -1,0 +1,4 @@
+pub mod Gates
+pub mod Format
+pub mod Faults
+pub mod Read

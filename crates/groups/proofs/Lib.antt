@@ -1,0 +1,6 @@
+pub mod Abelian
+pub mod Derived
+pub mod Kept
+pub mod ModLaws
+pub mod Totals
+pub mod XorLaws

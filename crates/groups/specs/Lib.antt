@@ -1,0 +1,6 @@
+pub mod Algebra
+pub mod Bitwise
+pub mod Choice
+pub mod Group
+pub mod Modular
+pub mod Total

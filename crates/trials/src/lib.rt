@@ -1,0 +1,10 @@
+//! Examples that are executed: files good and damaged, places spoilt, groups and clear runs.
+
+#[cfg(test)]
+mod bytes;
+#[cfg(test)]
+mod damaged;
+#[cfg(test)]
+mod looks;
+#[cfg(test)]
+mod spoilt;
