@@ -28,7 +28,7 @@ use Rattle.circuits.specs.Nets.{netOf}
 use Rattle.circuits.specs.Made.{circuitNet}
 
 -- a test that refused nothing passed
-holds : (b : Bool) (r : Refusal) → unless b r ≡ None → b ≡ true
+pub holds : (b : Bool) (r : Refusal) → unless b r ≡ None → b ≡ true
 holds true r e = refl
 holds false r e = let z : _≡_ {A = ℕ} 0 1 = cc in absurd (omega arith)
 
@@ -151,7 +151,7 @@ module _ (f : List ℕ) (gs : List gate.Gate) (os : List ℕ) (e : fault f (leng
         named = (
           all-below 1 (offset f ownersAt) (h .parties) (section f ownersAt) (none-found Absent _ (t .owners)),
           subst (λ (n : ℕ). Below n (take (h .outputs) os)) wires-are
-          (all-below 2 (offset f outputsAt) (h .inputs + h .gates) (take (h .outputs) os) (none-found Absent _ outputs)),
+              (all-below 2 (offset f outputsAt) (h .inputs + h .gates) (take (h .outputs) os) (none-found Absent _ outputs)),
         );
         wired = λ k l. within-limits (h .size) (getD (gatesOf (take (h .gates) gs)) k (adds 0 0)) (sym row-count) (sym table-count) (ap (λ n. n + k) (sym owners-long)) (wired k l);
         few = let l = few-looks h (offset f gatesAt) (h .inputs) 0 (gatesOf (take (h .gates) gs)) gates (omega arith) in omega arith;

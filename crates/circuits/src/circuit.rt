@@ -36,9 +36,9 @@ pub struct Circuit<'a> {
     ghost looked: { looks ≡ lookCount (gatesOf (behind gates)) },
 }
 
-impl Circuit<'static> {
+impl<'a> Circuit<'a> {
     /// The circuit that is built in: two codes, two parties, one wire, which is party 0's input and the one output.
-    pub fn single() -> Circuit<'static>
+    pub fn single() -> Circuit<'a>
         ensures { λ r. ⌜ netOf (r .size) (r .parties) (behind (r .owners)) (behind (r .tables)) (behind (r .rows)) (behind (r .gates)) (behind (r .outputs)) ≡ netOf 2 2 (0 ∷ []) [] [] [] (0 ∷ []) ⌝ }
     {
         Circuit {

@@ -22,14 +22,14 @@ module _ {X Y : Type 0} (f : X → Y) where
   filling-more all was is is′ n n′ y ys left x so front e lt wrote longer =
       record {
         done =
-          ap₂ (λ xs k. map f (take k xs) ++ left) wrote longer ∙ ap (λ t. map f t ++ left) (take-more-set is n x lt) ∙ ap (λ t. t ++ left) (map-push f (take n is) x)
-          ∙ append-assoc (map f (take n is)) (f x ∷ []) left
-          ∙ ap (λ z. map f (take n is) ++ z ∷ left) e
-          ∙ ap (λ t. map f (take n is) ++ t) (sym front)
-          ∙ so .done;
+            ap₂ (λ xs k. map f (take k xs) ++ left) wrote longer ∙ ap (λ t. map f t ++ left) (take-more-set is n x lt) ∙ ap (λ t. t ++ left) (map-push f (take n is) x)
+            ∙ append-assoc (map f (take n is)) (f x ∷ []) left
+            ∙ ap (λ z. map f (take n is) ++ z ∷ left) e
+            ∙ ap (λ t. map f (take n is) ++ t) (sym front)
+            ∙ so .done;
         spare =
-          ap₂ (λ xs k. drop k xs) wrote longer ∙ drop-set-lt (n + 1) is n x (omega arith) ∙ sym (drop-drop 1 n is) ∙ ap (drop 1) (so .spare) ∙ drop-drop 1 n was
-          ∙ ap (λ k. drop k was) (sym longer);
+            ap₂ (λ xs k. drop k xs) wrote longer ∙ drop-set-lt (n + 1) is n x (omega arith) ∙ sym (drop-drop 1 n is) ∙ ap (drop 1) (so .spare) ∙ drop-drop 1 n was
+            ∙ ap (λ k. drop k was) (sym longer);
         within = let h = ap length wrote ∙ length-set is n x in omega arith;
       }
 

@@ -47,12 +47,7 @@ pub(crate) fn section_end(pair: (u32, u32)) -> usize
 }
 
 // A pair with the expected length that begins no sooner than it may.
-fn placed(
-    file: &[u8],
-    k: usize,
-    soonest: usize,
-    expected: usize,
-) -> Result<(u32, u32), Refusal>
+fn placed(file: &[u8], k: usize, soonest: usize, expected: usize) -> Result<(u32, u32), Refusal>
     requires { ⌜ k + 8 ≤ length (now file) ⌝ }
     ensures { λ r. ⌜ Tested (pairFault (now (file .entry)) k soonest expected) r (λ p. (p .0 ≡ offset (now (file .entry)) k) × (p .1 ≡ len (now (file .entry)) k) × (p .1 ≡ expected) × (soonest ≤ p .0)) ⌝ }
 {

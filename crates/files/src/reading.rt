@@ -34,11 +34,7 @@ impl Header {
 }
 
 /// Tests a file as READ does, for so many gate places and output places, and answers its numbers.
-pub fn survey(
-    file: &[u8],
-    gate_places: usize,
-    output_places: usize,
-) -> Result<Survey, Refusal>
+pub fn survey(file: &[u8], gate_places: usize, output_places: usize) -> Result<Survey, Refusal>
     ensures { λ r. ⌜ Tested (fault (now (file .entry)) «gate_places» «output_places») r (λ s. Surveyed (now (file .entry)) s × InFile (now (file .entry)) × Lengths (now (file .entry)) × (s .header .gates ≤ «gate_places») × (s .header .outputs ≤ «output_places»)) ⌝ }
 {
     if file.len() < 54 {

@@ -17,12 +17,7 @@ use refusals::Refusal;
 
 impl Reader {
     // Every owner is a party.
-    fn test_owners(
-        &mut self,
-        file: &[u8],
-        pair: (u32, u32),
-        parties: u16,
-    ) -> Result<(), Refusal>
+    fn test_owners(&mut self, file: &[u8], pair: (u32, u32), parties: u16) -> Result<(), Refusal>
         requires { ⌜ pair .0 + pair .1 ≤ length (now file) ⌝ }
         ensures tests { λ r. ⌜ Tested (found Absent (beyond 1 (pair .0) parties (take (pair .1) (drop (pair .0) (now (file .entry)))))) r (λ _. Unit {0}) ⌝ }
         ensures end { λ _. ⌜ now (self .exit) .end ≡ now (self .entry) .end ⌝ }

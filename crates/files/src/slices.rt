@@ -8,11 +8,7 @@ use crate::pairs::section_start;
 pub fn front<T>(items: &[T], n: usize) -> &[T]
     ensures { λ r. ⌜ (now r ≡ take n (now (items .entry))) × (length (now r) ≤ n) ⌝ }
 {
-    if n < items.len() {
-        &items[0..n]
-    } else {
-        items
-    }
+    if n < items.len() { &items[0..n] } else { items }
 }
 
 /// The bytes that a pair of offset and length gives of a file, as far as the file has them.

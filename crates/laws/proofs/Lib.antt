@@ -6,3 +6,4 @@ pub mod InBytes
 pub mod Accepted
 pub mod ReadBack
 pub mod GapsUnread
+pub mod Held

@@ -1,5 +1,5 @@
 //! What is true of circuit files, whoever writes them.
-ghost use Rattle.laws.specs.Laws.{ReadBack, GapsUnread};
+ghost use Rattle.laws.specs.Laws.{CircuitsHold, ReadBack, GapsUnread};
 
 /// A valid circuit that is written as a file, with any bytes in the gaps between its sections, is accepted and read as the
 /// same circuit with its counts. Its offsets have to fit four bytes, and its gates and outputs the places supplied.
@@ -11,4 +11,10 @@ pub fn files_read_back()
 /// and give the same counts and the same circuit, whatever their gaps hold and however long the last gap is.
 pub fn gaps_are_not_read()
     ensures { λ _. ⌜ GapsUnread ⌝ }
+{}
+
+/// A file that READ accepts is a valid net, and CIRCUIT, given the places that READ filled, accepts the file and holds that
+/// net.
+pub fn circuits_hold_what_was_read()
+    ensures { λ _. ⌜ CircuitsHold ⌝ }
 {}

@@ -4,10 +4,10 @@ use mathlib.Core.List.{List, [], _∷_, _++_}
 use Prim.Native.Nat.{ℕ, zero, suc, _+_, _-_, _*_}
 use lib.ListN.{length, take, drop}
 use Rattle.std.specs.Joined.{joined}
-use Rattle.groups.specs.Group.{Group, Codes, sub}
+use Rattle.groups.specs.Group.{Group, Laws, Codes, sub}
 use Rattle.groups.specs.Total.{total}
 use Rattle.model.specs.Words.{at, each}
-use Rattle.model.specs.Net.{Net, inputs, lookTotal}
+use Rattle.model.specs.Net.{Net, Valid, inputs, lookTotal}
 use Rattle.model.specs.Deal.{Deal, Lawful, masks, owed, columns, column}
 
 -- a mask for each input and each LOOK, then a block for every party but the last
@@ -50,3 +50,7 @@ pub record OneToOne (G : Group) (net : Net) : Type 0 where
   pub tapes : (d : Deal) → Lawful G net d → Tape G net (tapeOf net d)
   pub there : (tape : List ℕ) → Tape G net tape → tapeOf net (dealOf G net tape) ≡ tape
   pub back : (d : Deal) → Lawful G net d → dealOf G net (tapeOf net d) ≡ d
+
+-- whatever the group and the circuit
+abbrev pub Tapes-are-deals : Type 0
+Tapes-are-deals = (G : Group) → Laws G → (net : Net) → Valid net → G .size ≡ net .size → OneToOne G net

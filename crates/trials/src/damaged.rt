@@ -1,13 +1,11 @@
 // Files with one thing wrong, and the refusal of each.
 use crate::bytes::ALL_KINDS;
-use crate::bytes::NO_GATE;
 use crate::bytes::SQUARES;
 use crate::bytes::answer;
 use crate::bytes::changed;
 use crate::bytes::numbers;
-use files::GatePartialEq;
 use files::Gate;
-use files::GateDebug;
+use files::GatePartialEq;
 use files::Kind;
 use files::read;
 use std::test::*;
@@ -20,15 +18,15 @@ const CHANGES: [(usize, u8, u8, usize); 52] = [
     (2, 9, 2, 2),
     (4, 0, 2, 4),
     (4, 161, 2, 4),
-    (7, 17, 2, 6),
+    (7, 16, 2, 6),
     (8, 17, 2, 8),
     (10, 65, 2, 10),
     (12, 0, 2, 12),
     (12, 65, 2, 12),
-    // counts at their limits, which only the lengths of the sections then contradict
+    // counts within their limits, which only the lengths of the sections then contradict
     (2, 8, 0, 0),
     (4, 160, 1, 14),
-    (7, 16, 1, 38),
+    (7, 15, 1, 38),
     (8, 16, 1, 22),
     (10, 64, 1, 30),
     (12, 64, 1, 46),

@@ -5,6 +5,10 @@ mod bytes;
 #[cfg(test)]
 mod damaged;
 #[cfg(test)]
+mod groups_named;
+#[cfg(test)]
 mod looks;
+#[cfg(test)]
+mod runs;
 #[cfg(test)]
 mod spoilt;

@@ -1,6 +1,9 @@
 // The greatest number of LOOK gates, and one more.
 use crate::bytes::NO_GATE;
 use crate::bytes::numbers;
+use circuits::Circuit;
+use files::Gate;
+use files::Kind;
 use files::read;
 use std::alloc::AllocError;
 use std::alloc::Global;
@@ -31,10 +34,38 @@ fn answer(heap: Global, gates: u16, looks: u16) -> Result<(u8, usize), AllocErro
     let f = file(heap, gates, looks)?;
     let mut records = vec![in heap; NO_GATE; 4096]?;
     let mut outputs = [0];
-    Ok(match read(f.as_slice(), records.as_mut_slice(), &mut outputs) {
-        Ok(contents) => (0, contents.looks as usize),
+    Ok(
+        match read(f.as_slice(), records.as_mut_slice(), &mut outputs) {
+            Ok(contents) => (0, contents.looks as usize),
+            Err(r) => numbers(r),
+        },
+    )
+}
+
+// What CIRCUIT answers of a file with no LOOK gate but the last, and places that hold nothing but LOOK gates.
+fn all_looks<'a>(file: &'a [u8], gates: &'a [Gate], outputs: &'a [u16]) -> (u8, usize) {
+    match Circuit::single().replace(file, gates, outputs) {
+        Ok(()) => (0, 0),
         Err(r) => numbers(r),
-    })
+    }
+}
+
+#[test]
+fn counts_of_places(rt: LibcRuntime) -> Result<(), Fail> {
+    let heap = rt.alloc();
+    let look = Gate {
+        kind: Kind::Look,
+        first: 0,
+        second: 0,
+    };
+    let records = vec![in heap; look; 241]?;
+    let few = file(heap, 240, 0)?;
+    check_eq(all_looks(few.as_slice(), records.as_slice(), &[0]), (0, 0))?;
+    let many = file(heap, 241, 0)?;
+    check_eq(
+        all_looks(many.as_slice(), records.as_slice(), &[0]),
+        (2, 57 + 5 * 240),
+    )
 }
 
 #[test]

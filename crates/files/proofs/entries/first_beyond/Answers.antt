@@ -8,11 +8,10 @@ returns-then-b-high c =
     sym (beyond-stops-at 1 (c .loop-b .at) (c .args .high) (c .args .bytes .now) (c .loop-b .b-index) (omega arith) (omega arith)) ∙ c .loop-b .inv .1
 
 pub loop-b-again : need.loop-b-again
-loop-b-again c =
-    (
-      omega arith,
-      sym (beyond-goes-at 1 (c .loop-b .at) (c .args .high) (c .args .bytes .now) (c .loop-b .b-index) (omega arith) (omega arith)) ∙ c .loop-b .inv .1,
-    )
+loop-b-again c = (
+  omega arith,
+  sym (beyond-goes-at 1 (c .loop-b .at) (c .args .high) (c .args .bytes .now) (c .loop-b .b-index) (omega arith) (omega arith)) ∙ c .loop-b .inv .1,
+)
 
 pub returns : need.returns
 returns c = sym (beyond-done 1 (c .loop-b .at) (c .args .high) (c .args .bytes .now) (c .loop-b .b-index) (omega arith)) ∙ c .loop-b .inv .1

@@ -21,8 +21,7 @@ loop-left-again c =
     let passes : gateFault h o w l g ≡ None = c .in-Continue-test .ensures tt .0 in
     let counted = c .look-mark-looks .ensures in
     let front = c .in-Some .ensures tt in
-    let room = look-room h o w l g passes (c .loop-left .inv .2) in
-    (
+    let room = look-room h o w l g passes (c .loop-left .inv .2) in (
       search needs,
       search needs,
       omega (arith, room, counted),

@@ -23,8 +23,7 @@ loop-left-again-in-Some c =
     let five : 5 ≤ length left = search needs in
     let room : list .len < length (list .places .now) = omega (arith, c .loop-left .inv .1) in
     let longer = c .push .ensures .longer .0 (c .push .ensures .there ∙ lt-ltb _ _ room) in
-    let front = ap known (entries-front left (Some (gateOf (c .in-Some .gate))) five (c .in-Some .ensures tt)) in
-    (
+    let front = ap known (entries-front left (Some (gateOf (c .in-Some .gate))) five (c .in-Some .ensures tt)) in (
       filling-more gateOf _ _ _ _ _ _ _ _ _ (c .in-Some .gate) (c .loop-left .inv .0) front refl room (c .push .ensures .wrote) longer,
       search needs,
       search needs,
@@ -36,7 +35,7 @@ loop-left-again c =
     let five : 5 ≤ length left = search needs in
     let front = ap known (entries-front left None five (c .in-rest-of-kind .ensures tt)) in
     let At : List net.Gate → Type 0 =
-      Filling gateOf (known (gateEntries (c .args .bytes .now))) (c .new-list .result .places .now) (c .loop-left .list .places .now) (c .loop-left .list .len) in
+    Filling gateOf (known (gateEntries (c .args .bytes .now))) (c .new-list .result .places .now) (c .loop-left .list .places .now) (c .loop-left .list .len) in
     (subst At front (c .loop-left .inv .0), search needs, search needs)
 
 pub returns : need.returns

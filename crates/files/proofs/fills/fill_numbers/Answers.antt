@@ -20,8 +20,7 @@ loop-left-again c =
     let list = c .loop-left .list in
     let two : 2 ≤ length left = search needs in
     let room : list .len < length (list .places .now) = omega (arith, c .loop-left .inv .1) in
-    let longer = c .push .ensures .longer .0 (c .push .ensures .there ∙ lt-ltb _ _ room) in
-    (
+    let longer = c .push .ensures .longer .0 (c .push .ensures .there ∙ lt-ltb _ _ room) in (
       filling-more _ _ _ _ _ _ _ _ _ _ _ (c .loop-left .inv .0) (numbers-more left two) refl room (c .push .ensures .wrote) longer,
       search needs,
       search needs,

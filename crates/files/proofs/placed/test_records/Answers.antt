@@ -29,14 +29,13 @@ loop-gate-again c =
     let counted = c .look-mark-looks .ensures in
     let room = look-room h o w l g passes (c .loop-gate .inv .2) in
     let looks : lookCount (gatesOf (drop i gs)) ≡ mark (isLook g) + lookCount (gatesOf (drop (i + 1) gs)) =
-      at-drop-more (λ xs. lookCount (gatesOf xs)) gs i noGate more in
-    (
+    at-drop-more (λ xs. lookCount (gatesOf xs)) gs i noGate more in (
       omega arith,
       omega arith,
       omega (arith, room, counted),
       ap (λ n. gatesFault h (o + 5) (w + 1) (l + n) rest) counted ∙ sym (gates-go h o w l g passes rest)
-      ∙ ap (gatesFault h o w l) (sym (at-drop-more (λ xs. map Some (gatesOf xs)) gs i noGate more))
-      ∙ c .loop-gate .inv .3,
+          ∙ ap (gatesFault h o w l) (sym (at-drop-more (λ xs. map Some (gatesOf xs)) gs i noGate more))
+          ∙ c .loop-gate .inv .3,
       omega (arith, looks, counted, c .loop-gate .inv .4),
     )
 
@@ -61,10 +60,9 @@ returns c =
     let gs = c .args .gates .now in
     let i = c .loop-gate .gate-index in
     let h = c .args .header .now in
-    let done = c .loop-gate-test .left in
-    (
+    let done = c .loop-gate-test .left in (
       sym (c .loop-gate .inv .3)
-      ∙ at-drop-all (λ xs. gatesFault h (c .loop-gate .at) (c .loop-gate .wire) (c .loop-gate .looks) (map Some (gatesOf xs))) gs i done,
+          ∙ at-drop-all (λ xs. gatesFault h (c .loop-gate .at) (c .loop-gate .wire) (c .loop-gate .looks) (map Some (gatesOf xs))) gs i done,
       let none : lookCount (gatesOf (drop i gs)) ≡ 0 = at-drop-all (λ xs. lookCount (gatesOf xs)) gs i done in
-      omega (arith, none, c .loop-gate .inv .4),
+          omega (arith, none, c .loop-gate .inv .4),
     )

@@ -51,12 +51,12 @@ returns c =
       );
       places = record {
         gatesAre =
-          sym (ap (λ n. gatesOf (take n (c .fill-gates .last .places))) gate-count) ∙ c .fill-gates .ensures .filled ∙ ap (λ xs. known (gateEntries xs)) gates;
+            sym (ap (λ n. gatesOf (take n (c .fill-gates .last .places))) gate-count) ∙ c .fill-gates .ensures .filled ∙ ap (λ xs. known (gateEntries xs)) gates;
         gatesStay =
-          subst (λ (n : ℕ). drop n (c .fill-gates .last .places) ≡ drop n (c .args .gates .now)) gate-count (c .fill-gates .ensures .spare);
+            subst (λ (n : ℕ). drop n (c .fill-gates .last .places) ≡ drop n (c .args .gates .now)) gate-count (c .fill-gates .ensures .spare);
         outputsAre =
-          sym (ap (λ n. take n (c .fill-numbers .last .places)) output-count) ∙ c .fill-numbers .ensures .filled ∙ ap numbers outputs;
+            sym (ap (λ n. take n (c .fill-numbers .last .places)) output-count) ∙ c .fill-numbers .ensures .filled ∙ ap numbers outputs;
         outputsStay =
-          subst (λ (n : ℕ). drop n (c .fill-numbers .last .places) ≡ drop n (c .args .outputs .now)) output-count (c .fill-numbers .ensures .spare);
+            subst (λ (n : ℕ). drop n (c .fill-numbers .last .places) ≡ drop n (c .args .outputs .now)) output-count (c .fill-numbers .ensures .spare);
       };
     }

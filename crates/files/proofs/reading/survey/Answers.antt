@@ -52,9 +52,8 @@ returns-in-Break-looks c =
 pub returns : need.returns
 returns c =
     let header = c .in-Continue-header .ensures tt in
-    let fit : Header → Type 0 = λ h. placesFault h (c .args .gate-places) (c .args .output-places) ≡ None in
-    (
+    let fit : Header → Type 0 = λ h. placesFault h (c .args .gate-places) (c .args .output-places) ≡ None in (
       sections-decide (c .args .file .now) (c .args .gate-places) (c .args .output-places) (c .if-file-lt54 .left) (header .0)
-      (c .in-Continue-directory .ensures tt .0) (subst fit (header .1) (c .in-Continue-test-places .ensures tt .0)) (c .in-Continue-looks .ensures tt .tests .0),
+          (c .in-Continue-directory .ensures tt .0) (subst fit (header .1) (c .in-Continue-test-places .ensures tt .0)) (c .in-Continue-looks .ensures tt .tests .0),
       search needs,
     )

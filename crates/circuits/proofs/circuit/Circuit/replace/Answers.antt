@@ -26,10 +26,9 @@ ghost-self c =
     let outputs = subst (λ (x : Header). OutputsPass x (offset f outputsAt)) counts (subst (OutputsPass h) (ap (λ d. d .outputs .0) pairs) (c .in-Continue-test-outputs .ensures tt .0)) in
     let v = kept f gs os (t .0) (t .1 .1) (t .1 .2) gates outputs in
     let same =
-      same-net f gs os h (c .in-Continue-found .found .directory) _ _ _ _ _ counts pairs (c .section-of .ensures) (c .section-of-2 .ensures) (c .section-of-3 .ensures)
-      (c .front .ensures .0) (c .front-2 .ensures .0) in
-    let looked = c .in-Continue-looks .ensures tt .1 ∙ ap (λ xs. lookCount (gatesOf xs)) (sym (c .front .ensures .0)) in
-    (
+    same-net f gs os h (c .in-Continue-found .found .directory) _ _ _ _ _ counts pairs (c .section-of .ensures) (c .section-of-2 .ensures) (c .section-of-3 .ensures)
+    (c .front .ensures .0) (c .front-2 .ensures .0) in
+    let looked = c .in-Continue-looks .ensures tt .1 ∙ ap (λ xs. lookCount (gatesOf xs)) (sym (c .front .ensures .0)) in (
       subst Sized same (v .sized),
       (subst Counted same (v .counted), (subst Whole same (v .whole), (subst Coded same (v .coded), (subst Named same (v .named), (subst Wired same (v .wired), (subst Few same (v .few), (looked, tt))))))),
     )
