@@ -1,6 +1,9 @@
-// One real task from first to last: the example circuit's file is read and tested, made a circuit, and run in the clear.
+// One real task from first to last: the example circuit's file is read and tested, made a circuit, run in the
+// clear, and dealt to its parties.
 use circuits::Circuit;
 use clear::evaluate;
+use dealer::deal_part;
+use dealer::part_length;
 use files::Contents;
 use files::Gate;
 use files::Kind;
@@ -12,6 +15,9 @@ use groups::modular::ModMaskGroup;
 use refusals::RefusalError;
 use std::error::AnyError;
 use std::fs;
+
+// Masks 4 and 8 for the inputs and 5 for the LOOK, then party 0's ten cells and its output share.
+const TAPE: [u8; 14] = [4, 8, 5, 0, 1, 2, 3, 4, 6, 6, 7, 8, 9, 9];
 
 const NO_GATE: Gate = Gate {
     kind: Kind::Add,
@@ -82,6 +88,30 @@ fn run<G: MaskGroup>(
     Ok(())
 }
 
+// Deals the circuit from a tape: the mask of every wire, and each party's part.
+fn deal<G: MaskGroup>(
+    rt: &LibcRuntime,
+    group: &G,
+    circuit: &Circuit<'_>,
+    tape: &[u8],
+) -> Result<(), AnyError> {
+    let heap = rt.alloc();
+    println!(rt, "tape {tape:?}")?;
+    let mut masks = vec![in heap; 0u8; circuit.wire_count()]?;
+    for party in 0..8u8 {
+        if party as u16 >= circuit.parties() {
+            break;
+        }
+        let mut part = vec![in heap; 0u8; part_length(circuit, party)?]?;
+        deal_part(group, circuit, tape, party, masks.as_mut_slice(), part.as_mut_slice())?;
+        if party == 0 {
+            println!(rt, "masks {masks:?}")?;
+        }
+        println!(rt, "part of party {party}: {part:?}")?;
+    }
+    Ok(())
+}
+
 // Makes the circuit of a file and of the places that READ filled, and runs it.
 fn run_file<'a>(
     rt: &LibcRuntime,
@@ -94,7 +124,9 @@ fn run_file<'a>(
     list(rt, &circuit)?;
     let kind = group("mod", 10)?.number();
     println!(rt, "mod 10 is a group of kind {kind}")?;
-    run(rt, &Mod::new(10)?, &circuit, &[7, 6])
+    let ten = Mod::new(10)?;
+    run(rt, &ten, &circuit, &[7, 6])?;
+    deal(rt, &ten, &circuit, &TAPE)
 }
 
 fn activate(rt: &LibcRuntime) -> Result<(), AnyError> {

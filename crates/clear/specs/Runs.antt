@@ -1,22 +1,17 @@
 -- What the clear run of a circuit tests, in its order, and how it refuses.
 use mathlib.Core.Path.{_≡_}
-use mathlib.Core.Bool.{Bool, true, _&&_}
 use mathlib.Core.List.{List, [], _∷_}
 use Prim.Native.Nat.{ℕ}
-use lib.Dec.{eqb, ltb}
+use lib.Dec.{eqb}
 use lib.ListN.{length}
 use Rattle.std.specs.declared.option.Option.{Option}
 use Rattle.refusals.specs.declared.Refusal.{Refusal}
 use Rattle.refusals.specs.declared.Refusal.the-variants.{Counts, Length, NotCode}
 use Rattle.refusals.specs.Tests.{unless, first}
 use Rattle.groups.specs.Group.{Group}
+use Rattle.groups.specs.Tested.{areCodes}
 use Rattle.model.specs.Words.{Below}
 use Rattle.model.specs.Net.{Net, inputs, wires}
-
--- every number of the list is below q
-abbrev pub areCodes : ℕ → List ℕ → Bool
-areCodes q [] = true
-areCodes q (x ∷ xs) = ltb x q && areCodes q xs
 
 -- The group is of the circuit's size; there is a value for each input, a place for each wire and one for each output; the
 -- values are codes.

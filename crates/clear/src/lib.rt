@@ -1,6 +1,5 @@
 //! A circuit in the clear: the value of every wire, with no masks.
 
-mod codes;
 mod gates;
 mod run;
 

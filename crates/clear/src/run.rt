@@ -7,9 +7,9 @@ ghost use Rattle.model.specs.Net.{wires as allWires};
 ghost use Rattle.model.specs.Clear.{clear, outputsOf};
 ghost use Rattle.circuits.specs.Circuits.{net};
 ghost use Rattle.clear.specs.Runs.{Ready, runFault};
-use crate::codes::are_codes;
 use crate::gates::run_gates;
 use circuits::Circuit;
+use groups::codes::are_codes;
 use groups::masks::MaskGroup;
 use refusals::Refusal;
 

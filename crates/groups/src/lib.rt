@@ -5,6 +5,7 @@ ghost use Rattle.groups.specs.Choice.{kind-number};
 
 pub mod bitwise;
 pub mod choice;
+pub mod codes;
 pub mod masks;
 pub mod modular;
 pub mod sums;

@@ -25,6 +25,8 @@ pub enum Refusal {
     Group,
     /// 9: the group's size is not the circuit's
     Counts,
+    /// 10: no such party
+    Party,
     /// 15: a list or a buffer of the wrong length
     Length,
     /// 16: a number that was given is no code
@@ -32,7 +34,7 @@ pub enum Refusal {
 }
 
 impl Refusal {
-    /// The number of the cause. 10 to 14 and 17 are kept free for later calls.
+    /// The number of the cause. 11 to 14 and 17 are kept free for later calls.
     pub fn number(self) -> u8
         ensures { λ r. ⌜ r ≡ number self ⌝ }
     {
@@ -46,6 +48,7 @@ impl Refusal {
             Refusal::Absent(_) => 7,
             Refusal::Group => 8,
             Refusal::Counts => 9,
+            Refusal::Party => 10,
             Refusal::Length => 15,
             Refusal::NotCode => 16,
         }
@@ -63,7 +66,11 @@ impl Refusal {
             | Refusal::Operand(at)
             | Refusal::Code(at)
             | Refusal::Absent(at) => Some(at),
-            Refusal::Group | Refusal::Counts | Refusal::Length | Refusal::NotCode => None,
+            Refusal::Group
+            | Refusal::Counts
+            | Refusal::Party
+            | Refusal::Length
+            | Refusal::NotCode => None,
         }
     }
 
@@ -79,6 +86,7 @@ impl Refusal {
             Refusal::Absent(_) => "no such owner or output wire",
             Refusal::Group => "no such group",
             Refusal::Counts => "the group's size is not the circuit's",
+            Refusal::Party => "no such party",
             Refusal::Length => "a list or a buffer of the wrong length",
             Refusal::NotCode => "a number that is no code",
         }

@@ -1,4 +1,4 @@
--- A pass over values that notes whether one is no code.
+-- A pass over numbers that notes whether one is no code.
 use mathlib.Core.Path.{_≡_, refl, sym, ap, _∙_}
 use mathlib.Core.Bool.{Bool, true, false, not, _&&_, _||_}
 use mathlib.Core.List.{List, [], _∷_}
@@ -9,8 +9,7 @@ use lib.ListN.{length, getD, drop}
 use Rattle.std.proofs.shelf.Lists.{at-drop-more, at-drop-all}
 use Rattle.std.proofs.shelf.Tests.{ltb-true, and-parts}
 use Rattle.std.proofs.shelf.Ways.{tells}
-use Rattle.model.specs.Words.{Below}
-use Rattle.clear.specs.Runs.{areCodes}
+use Rattle.groups.specs.Tested.{areCodes}
 
 noted : (q x : ℕ) (bad rest : Bool) → (not (bad || leb q x) && rest) ≡ (not bad && (ltb x q && rest))
 noted q x true rest = refl
@@ -29,7 +28,7 @@ pub pass-all : (q : ℕ) (xs : List ℕ) (i : ℕ) (bad all : Bool) → length x
 pass-all q xs i bad all done so = sym (and-true (not bad)) ∙ sym (at-drop-all (λ ys. not bad && areCodes q ys) xs i done) ∙ so
 
 -- what passes is codes
-pub codes-below : (q : ℕ) (xs : List ℕ) → areCodes q xs ≡ true → Below q xs
+pub codes-below : (q : ℕ) (xs : List ℕ) → areCodes q xs ≡ true → (k : ℕ) → k < length xs → getD xs k 0 < q
 codes-below q [] e k h = absurd (omega arith)
 codes-below q (x ∷ xs) e zero h = ltb-true x q (and-parts (ltb x q) (areCodes q xs) e .0)
 codes-below q (x ∷ xs) e (suc k) h = codes-below q xs (and-parts (ltb x q) (areCodes q xs) e .1) k (omega arith)
