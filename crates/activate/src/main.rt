@@ -103,7 +103,14 @@ fn deal<G: MaskGroup>(
             break;
         }
         let mut part = vec![in heap; 0u8; part_length(circuit, party)?]?;
-        deal_part(group, circuit, tape, party, masks.as_mut_slice(), part.as_mut_slice())?;
+        deal_part(
+            group,
+            circuit,
+            tape,
+            party,
+            masks.as_mut_slice(),
+            part.as_mut_slice(),
+        )?;
         if party == 0 {
             println!(rt, "masks {masks:?}")?;
         }

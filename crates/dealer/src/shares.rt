@@ -23,7 +23,12 @@ fn column_sum<G: MaskGroup>(group: &G, blocks: &[u8], count: usize, width: usize
 }
 
 // Takes from each number of a block what the shares of its column come to in the `count` blocks of the others.
-pub(crate) fn subtract_others<G: MaskGroup>(group: &G, others: &[u8], count: usize, block: &mut [u8])
+pub(crate) fn subtract_others<G: MaskGroup>(
+    group: &G,
+    others: &[u8],
+    count: usize,
+    block: &mut [u8],
+)
     requires { ⌜ count * length (now block) ≤ length (now others) ⌝ }
     ensures { λ _. ⌜ now (block .exit) ≡ each (length (now (block .entry))) (λ k. sub (means (now (group .entry))) (at (now (block .entry)) k) (total (means (now (group .entry))) (column (pieces count (length (now (block .entry))) (now (others .entry))) k))) ⌝ }
 {

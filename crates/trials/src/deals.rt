@@ -12,6 +12,7 @@ use dealer::slot;
 use dealer::tape_length;
 use files::Gate;
 use files::Kind;
+use files::KindPartialEq;
 use files::read;
 use groups::bitwise::Xor;
 use groups::bitwise::XorMaskGroup;
@@ -20,6 +21,7 @@ use groups::modular::Mod;
 use groups::modular::ModMaskGroup;
 use refusals::Refusal;
 use refusals::RefusalDebug;
+use refusals::RefusalPartialEq;
 use std::alloc::Global;
 use std::test::*;
 
@@ -88,7 +90,14 @@ fn deals<G: MaskGroup>(
     for p in 0..circuit.parties() {
         let party = (p % 256) as u8;
         let mut part = vec![in heap; 0u8; part_length(circuit, party)?]?;
-        deal_part(group, circuit, tape.as_slice(), party, masks.as_mut_slice(), part.as_mut_slice())?;
+        deal_part(
+            group,
+            circuit,
+            tape.as_slice(),
+            party,
+            masks.as_mut_slice(),
+            part.as_mut_slice(),
+        )?;
         parts.push(part)?;
     }
     Ok(adds_up(group, circuit, masks.as_slice(), parts.as_slice()))
@@ -114,15 +123,21 @@ fn random_deals<G: MaskGroup>(heap: Global, group: &G, start: u32) -> Result<(),
         let file = circuit_file(heap, &mut random, group.size(), 2 + i % 7)?;
         let mut gates = vec![in heap; NO_GATE; 12]?;
         let mut outputs = vec![in heap; 0u16; 3]?;
-        check(read(file.as_slice(), gates.as_mut_slice(), outputs.as_mut_slice()).is_ok())?;
-        check(deals_file(
-            heap,
-            group,
-            &mut random,
+        check(read(
             file.as_slice(),
-            gates.as_slice(),
-            outputs.as_slice(),
-        )?)?;
+            gates.as_mut_slice(),
+            outputs.as_mut_slice(),
+        ).is_ok())?;
+        check(
+            deals_file(
+                heap,
+                group,
+                &mut random,
+                file.as_slice(),
+                gates.as_slice(),
+                outputs.as_slice(),
+            )?,
+        )?;
     }
     Ok(())
 }
@@ -138,62 +153,68 @@ fn parts_add_up(rt: LibcRuntime) -> Result<(), Fail> {
     random_deals(heap, &Mod::new(256)?, 6)
 }
 
-fn number<T: Drop>(r: Result<T, Refusal>) -> u8 {
+fn number_of<T: Drop>(r: Result<T, Refusal>) -> u8 {
     match r {
         Ok(_) => 0,
         Err(e) => e.number(),
     }
 }
 
-// PART's number on the example, with buffers of these lengths, and whether it left both as they were.
-fn refused<G: MaskGroup>(
-    group: &G,
-    circuit: &Circuit<'_>,
-    tape: &[u8],
-    party: u8,
-    places: (usize, usize),
-) -> (u8, bool) {
-    let mut masks = [200; 5];
-    let mut part = [200; 13];
-    let n = number(deal_part(
-        group,
-        circuit,
-        tape,
-        party,
-        &mut masks[0..places.0.min(5)],
-        &mut part[0..places.1.min(13)],
-    ));
-    (n, masks == [200; 5] && part == [200; 13])
+// Masks 4 and 8 for the inputs and 5 for the LOOK; party 0 has 6 in cell 5, and 9 for the output.
+const TAPE: [u8; 14] = [4, 8, 5, 0, 1, 2, 3, 4, 6, 6, 7, 8, 9, 9];
+
+// The group's size, how much of the tape is handed in, where it has a 10, the party, the lengths of the buffers, and the
+// refusal.
+const REFUSED: [(u32, usize, usize, u8, usize, usize, u8); 8] = [
+    (11, 0, 0, 9, 0, 0, 9),
+    (10, 0, 0, 2, 0, 0, 10),
+    (10, 13, 0, 0, 4, 12, 15),
+    (10, 14, 0, 0, 3, 12, 15),
+    (10, 14, 0, 0, 5, 12, 15),
+    (10, 14, 0, 0, 4, 13, 15),
+    (10, 14, 0, 0, 4, 12, 16),
+    (10, 14, 13, 1, 4, 12, 16),
+];
+
+fn refuses(circuit: &Circuit<'_>) -> Result<(), Fail> {
+    for (size, count, at, party, mask_places, part_places, number) in REFUSED {
+        let mut tape = TAPE;
+        tape[at % 14] = 10;
+        let mut masks = [200; 5];
+        let mut part = [200; 13];
+        let group = Mod::new(size)?;
+        let m = &mut masks[0..mask_places.min(5)];
+        let p = &mut part[0..part_places.min(13)];
+        let n = number_of(deal_part(&group, circuit, &tape[0..count.min(14)], party, m, p));
+        check(n == number && masks == [200; 5] && part == [200; 13])?;
+    }
+    Ok(())
+}
+
+fn lengths(c: &Circuit<'_>) -> Result<(), Fail> {
+    check(tape_length(c) == 14)?;
+    check(part_length(c, 0) == Ok(12) && part_length(c, 1) == Ok(12))?;
+    check(place_length(c, 0) == Ok(16) && number_of(place_length(c, 2)) == 10)?;
+    check(number_of(part_length(c, 2)) == 10 && number_of(part_length(c, 255)) == 10)?;
+    check(slot(c, 0, 0) == Some(0) && slot(c, 1, 1) == Some(0))?;
+    check(slot(c, 0, 1) == None && slot(c, 1, 0) == None && slot(c, 0, 2) == None)
 }
 
 fn example<'a>(file: &'a [u8], gates: &'a [Gate], outputs: &'a [u16]) -> Result<(), Fail> {
     let mut c = Circuit::single();
     c.replace(file, gates, outputs)?;
+    lengths(&c)?;
     let ten = Mod::new(10)?;
-    check(tape_length(&c) == 14)?;
-    check(part_length(&c, 0) == Ok(12) && part_length(&c, 1) == Ok(12))?;
-    check(place_length(&c, 0) == Ok(16) && number(place_length(&c, 2)) == 10)?;
-    check(number(part_length(&c, 2)) == 10 && number(part_length(&c, 255)) == 10)?;
-    check(slot(&c, 0, 0) == Some(0) && slot(&c, 1, 1) == Some(0))?;
-    check(slot(&c, 0, 1) == None && slot(&c, 1, 0) == None && slot(&c, 0, 2) == None)?;
-    // masks 4 and 8 for the inputs and 5 for the LOOK; party 0 has 6 in cell 5 and 9 for the output
-    let tape = [4, 8, 5, 0, 1, 2, 3, 4, 6, 6, 7, 8, 9, 9];
     let mut masks = [0; 4];
     let mut first = [0; 12];
     let mut second = [0; 12];
-    deal_part(&ten, &c, &tape, 0, &mut masks, &mut first)?;
-    deal_part(&ten, &c, &tape, 1, &mut masks, &mut second)?;
+    deal_part(&ten, &c, &TAPE, 0, &mut masks, &mut first)?;
+    deal_part(&ten, &c, &TAPE, 1, &mut masks, &mut second)?;
     check(masks == [4, 8, 2, 5])?;
     check(first == [4, 0, 1, 2, 3, 4, 6, 6, 7, 8, 9, 9])?;
     // cell 5 adds to 4: the square of 5 - 2, and 5
     check(second[0] == 8 && second[6] == 8 && second[11] == 6)?;
-    check(refused(&Mod::new(11)?, &c, &[], 9, (0, 0)) == (9, true))?;
-    check(refused(&ten, &c, &[], 2, (0, 0)) == (10, true))?;
-    check(refused(&ten, &c, &tape[0..13], 0, (4, 12)) == (15, true))?;
-    check(refused(&ten, &c, &tape, 0, (5, 12)) == (15, true))?;
-    check(refused(&ten, &c, &tape, 0, (4, 13)) == (15, true))?;
-    check(refused(&ten, &c, &[10, 8, 5, 0, 0, 0, 0, 0, 0, 0, 0, 0, 0, 0], 0, (4, 12)) == (16, true))?;
-    check(refused(&ten, &c, &[4, 8, 5, 0, 0, 0, 0, 0, 0, 0, 0, 0, 0, 10], 1, (4, 12)) == (16, true))
+    refuses(&c)
 }
 
 #[test]
@@ -208,7 +229,7 @@ fn example_deal() -> Result<(), Fail> {
 fn fills() -> Result<(), Fail> {
     let ten = Mod::new(10)?;
     let mut tape = [77; 4];
-    check(number(fill(&ten, &[0, 9, 10], &mut tape)) == 15 && tape == [77; 4])?;
+    check(number_of(fill(&ten, &[0, 9, 10], &mut tape)) == 15 && tape == [77; 4])?;
     fill(&ten, &[0, 9, 10, 255], &mut tape)?;
     check(tape == [0, 9, 0, 5])?;
     fill(&Xor::new(256)?, &[0, 9, 10, 255], &mut tape)?;

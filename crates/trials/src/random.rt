@@ -63,7 +63,7 @@ pub fn circuit_file(
     for count in [size, n, inputs, gates, 2, 2, 3] {
         push_number(&mut file, count)?;
     }
-    let mut offset = 54;
+    let mut offset = 54u16;
     for length in [inputs, 2 * size, 16, 5 * gates, 6] {
         file.extend_from_slice(&u32::from(offset).to_le_bytes())?;
         file.extend_from_slice(&u32::from(length).to_le_bytes())?;

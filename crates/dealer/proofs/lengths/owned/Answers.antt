@@ -12,10 +12,10 @@ loop-owner-again c =
     let h = c .args .party in
     let i = c .loop-owner .owner-index in
     elim (c .if-owner-party .came) [
-      then-owner-party w ↦
-        let e = owned-yes h os i (c .loop-owner-test .taken) (w .if-owner-party .taken) in (omega (arith, w .count-is), omega (arith, w .count-is))
-    | else-owner-party w ↦
-        let e = owned-no h os i (c .loop-owner-test .taken) (w .if-owner-party .left) in (omega (arith, w .count-is), omega (arith, w .count-is))
+      | then-owner-party w ↦
+          let e = owned-yes h os i (c .loop-owner-test .taken) (w .if-owner-party .taken) in (omega (arith, w .count-is), omega (arith, w .count-is))
+      | else-owner-party w ↦
+          let e = owned-no h os i (c .loop-owner-test .taken) (w .if-owner-party .left) in (omega (arith, w .count-is), omega (arith, w .count-is))
     ]
 
 pub returns : need.returns

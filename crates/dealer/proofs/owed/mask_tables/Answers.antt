@@ -83,20 +83,20 @@ loop-gate-again g c =
     let size = c .size-size .result in
     let same = c .size-size .ensures .is in
     elim (c .match-gate .came) [
-      in-Look w ↦
-        let so = look-gate N items k meant (circuit .wired) in-items (w .in-Look .is) in
-        let room = cells-room G N ms k gate so in
-        let within : start ≤ length block = omega (arith, c .loop-gate .inv .1, c .pre .room) in
-        let rest = postOf start ((start + size) - start) block in
-        let masked = w .mask-table .ensures ∙ ap (λ n. each (N .size) (cell G N ms (record { wire = n; operand = gate .first; table = gate .second }))) (c .loop-gate .inv .0) in
-        let is = w .block-is ∙ ap (λ ys. take start block ++ (ys ++ rest)) masked in (
-          omega (arith, c .loop-gate .inv .0),
-          w .start-is ∙ start-look N items k start meant in-items (c .loop-gate .inv .1) size same (w .in-Look .is),
-          λ j h.
-            ap (λ xs. at xs j) is
-            ∙ tables-more G N ms k gate so block rest start (c .loop-gate .inv .1) within (c .loop-gate .inv .2) j (omega (arith, w .start-is, same)),
-        )
-    | in-rest w ↦ (
+      | in-Look w ↦
+          let so = look-gate N items k meant (circuit .wired) in-items (w .in-Look .is) in
+          let room = cells-room G N ms k gate so in
+          let within : start ≤ length block = omega (arith, c .loop-gate .inv .1, c .pre .room) in
+          let rest = postOf start ((start + size) - start) block in
+          let masked = w .mask-table .ensures ∙ ap (λ n. each (N .size) (cell G N ms (record { wire = n; operand = gate .first; table = gate .second }))) (c .loop-gate .inv .0) in
+          let is = w .block-is ∙ ap (λ ys. take start block ++ (ys ++ rest)) masked in (
+            omega (arith, c .loop-gate .inv .0),
+            w .start-is ∙ start-look N items k start meant in-items (c .loop-gate .inv .1) size same (w .in-Look .is),
+            λ j h.
+                ap (λ xs. at xs j) is
+                ∙ tables-more G N ms k gate so block rest start (c .loop-gate .inv .1) within (c .loop-gate .inv .2) j (omega (arith, w .start-is, same)),
+          )
+      | in-rest w ↦ (
         omega (arith, c .loop-gate .inv .0),
         w .start-is ∙ start-rest N items k start meant in-items (c .loop-gate .inv .1) (w .in-rest .not-Look),
         λ j h. ap (λ xs. at xs j) (w .block-is) ∙ c .loop-gate .inv .2 j (omega (arith, w .start-is)),

@@ -25,22 +25,22 @@ loop-i-again c =
     let all = ownMasks h os ms in
     let left = ownMasks h (drop (i + 1) os) (drop (i + 1) ms) in
     elim (c .if-owner-party .came) [
-      then-owner-party w ↦
-        let own = w .if-owner-party .taken in
-        let more = owned-yes h os i in-os own in
-        let below = owned-below h os i in-os own in
-        let room : c .loop-i .slot < length (c .loop-i .part) = omega (arith, c .pre .room) in (
-          omega (arith, w .slot-is),
-          omega (arith, w .slot-is),
-          ap₂ (λ n xs. take n xs ++ left) (w .slot-is) (w .part-is) ∙ copied-yes h os ms i in-os in-ms (c .loop-i .part) all (c .loop-i .slot) room own (c .loop-i .inv .2),
-        )
-    | else-owner-party w ↦
-        let other = w .if-owner-party .left in
-        let more = owned-no h os i in-os other in (
-          omega (arith, w .slot-is),
-          omega (arith, w .slot-is),
-          ap₂ (λ n xs. take n xs ++ left) (w .slot-is) (w .part-is) ∙ copied-no h os ms i in-os in-ms (c .loop-i .part) all (c .loop-i .slot) other (c .loop-i .inv .2),
-        )
+      | then-owner-party w ↦
+          let own = w .if-owner-party .taken in
+          let more = owned-yes h os i in-os own in
+          let below = owned-below h os i in-os own in
+          let room : c .loop-i .slot < length (c .loop-i .part) = omega (arith, c .pre .room) in (
+            omega (arith, w .slot-is),
+            omega (arith, w .slot-is),
+            ap₂ (λ n xs. take n xs ++ left) (w .slot-is) (w .part-is) ∙ copied-yes h os ms i in-os in-ms (c .loop-i .part) all (c .loop-i .slot) room own (c .loop-i .inv .2),
+          )
+      | else-owner-party w ↦
+          let other = w .if-owner-party .left in
+          let more = owned-no h os i in-os other in (
+            omega (arith, w .slot-is),
+            omega (arith, w .slot-is),
+            ap₂ (λ n xs. take n xs ++ left) (w .slot-is) (w .part-is) ∙ copied-no h os ms i in-os in-ms (c .loop-i .part) all (c .loop-i .slot) other (c .loop-i .inv .2),
+          )
     ]
 
 pub returns : need.returns
