@@ -6,3 +6,4 @@ pub mod Pieces
 pub mod Tables
 pub mod ByParty
 pub mod Dealt
+pub mod Shifts

@@ -1,3 +1,4 @@
 pub mod Lengths
 pub mod Fills
 pub mod Parts
+pub mod Shifts

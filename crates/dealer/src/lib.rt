@@ -9,6 +9,7 @@ mod owed;
 mod own;
 mod parts;
 mod shares;
+mod shifting;
 
 pub use filling::fill;
 pub use lawful::tapes_are_lawful_deals;
@@ -17,3 +18,4 @@ pub use lengths::place_length;
 pub use lengths::slot;
 pub use lengths::tape_length;
 pub use parts::deal_part;
+pub use shifting::shift_part;

@@ -1,7 +1,10 @@
+pub mod Coded
 pub mod Counts
+pub mod Lift
 pub mod Listed
 pub mod Lookups
 pub mod Masks
 pub mod Sums
 pub mod Tapes
+pub mod Walks
 pub mod Wires

@@ -1,22 +1,21 @@
 -- The masks of a lawful deal.
-use mathlib.Core.Path.{_≡_, refl, sym, ap, ap₂, _∙_}
+use mathlib.Core.Path.{_≡_, refl, ap₂, _∙_}
 use mathlib.Core.Bool.{Bool, true, false, cond}
-use mathlib.Core.List.{List, [], _∷_, _++_}
-use Prim.Native.Nat.{ℕ, zero, suc, _+_, _-_, _*_, _/_, _%_, _<_}
+use mathlib.Core.List.{List, [], _∷_}
+use Prim.Native.Nat.{ℕ, zero, suc, _+_, _-_, _/_, _%_, _<_}
 use native.Mathlib.Nat.{zero-add}
 use native.Mathlib.Numerals.{one-add}
 use native.Mathlib.Omega.{arith}
-use lib.ListN.{length, getD, take}
+use lib.ListN.{length, take}
 use lib.Dec.{eqb, ltb}
 use Rattle.std.proofs.shelf.Lists.{getD-append-left, getD-append-add, length-append}
 use Rattle.std.proofs.shelf.Tests.{eq-eqb, eqb-true}
 use Rattle.groups.specs.Group.{Group, Laws, Codes}
-use Rattle.groups.specs.Total.{total}
 use Rattle.groups.proofs.Kept.{codes-append, codes-cons, codes-none, codes-head, codes-tail}
-use Rattle.model.specs.Words.{at, each, mark, tally}
-use Rattle.model.specs.Net.{Gate, Net, Valid, Rules, inputs, wires, gateAt, ordinal, lookTotal, lookupAt, step, flow}
-use Rattle.model.specs.Deal.{Deal, Lawful, masking, masks, owed, owedAt, cells, columns, column, block, cell, owned, ownMasks, part, partLength}
-use Rattle.model.proofs.Listed.{at-each, length-each, codes-each, code-at}
+use Rattle.model.specs.Words.{at, each, mark}
+use Rattle.model.specs.Net.{Gate, Net, Valid, inputs, wires, gateAt, ordinal, lookupAt, step, flow}
+use Rattle.model.specs.Deal.{Deal, Lawful, masking, masks, owed, owedAt, cells, columns, block, cell, owned, ownMasks, part, partLength}
+use Rattle.model.proofs.Listed.{at-each, codes-each, code-at}
 use Rattle.model.proofs.Wires.{flow-length, flow-input, flow-gate, flow-code, entry-code}
 use Rattle.model.proofs.Sums.{Blocks}
 

@@ -1,26 +1,22 @@
 -- Sums of columns.
-use mathlib.Core.Path.{_≡_, refl, sym, ap, ap₂, subst, _∙_}
-use mathlib.Core.List.{List, [], _∷_, _++_, map}
+use mathlib.Core.Path.{_≡_, sym, ap, ap₂, subst, _∙_}
+use mathlib.Core.List.{List, [], _∷_, _++_}
 use Prim.Native.Nat.{ℕ, zero, suc, _+_, _<_}
 use native.Mathlib.Omega.{arith}
-use lib.ListN.{length, getD, set, take, drop}
+use lib.ListN.{length, set, take, drop}
 use Rattle.std.proofs.shelf.Lists.{map-append, length-take, length-drop, getD-take, getD-drop, take-append-drop, drop-more, take-set, drop-set-lt}
 use Rattle.groups.specs.Group.{Group, Laws, Codes}
-use Rattle.groups.specs.Total.{Sums, total}
+use Rattle.groups.specs.Total.{total}
 use Rattle.groups.proofs.Abelian as ab
 use Rattle.groups.proofs.Derived.{abelian, same-number}
 use Rattle.groups.proofs.Totals.{sums}
 use Rattle.groups.proofs.Kept.{codes-none, codes-cons}
 use Rattle.model.specs.Words.{at}
-use Rattle.model.specs.Deal.{column, block}
+use Rattle.model.specs.Deal.{column, block, others}
 use Rattle.model.proofs.Listed.{code-at}
 
 abbrev pub Blocks : Group → List (List ℕ) → Type 0
 Blocks G bs = (p : ℕ) → p < length bs → Codes G (block bs p)
-
--- the blocks of all parties but h
-abbrev pub others : ℕ → List (List ℕ) → List (List ℕ)
-others h bs = take h bs ++ drop (h + 1) bs
 
 module _ (G : Group) (laws : Laws G) where
   pub blocks-append : (bs cs : List (List ℕ)) → Blocks G bs → Blocks G cs → Blocks G (bs ++ cs)

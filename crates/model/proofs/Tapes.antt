@@ -4,7 +4,7 @@ use mathlib.Core.List.{List, [], _∷_, _++_}
 use Prim.Native.Nat.{ℕ, zero, suc, _+_, _-_, _*_, _<_, _≤_}
 use native.Mathlib.Nat.{suc-mul, zero-mul}
 use native.Mathlib.Omega.{arith}
-use lib.ListN.{length, getD, take, drop}
+use lib.ListN.{length, take, drop}
 use Rattle.std.specs.Joined.{joined}
 use Rattle.std.proofs.shelf.Lists.{getD-take, length-append, length-drop, length-take-le, take-append-drop, take-at, drop-at, take-all, ext-getD, take-more, length-push, nil-from-length}
 use Rattle.groups.specs.Group.{Group, Laws, Codes, sub}

@@ -2,8 +2,8 @@
 use mathlib.Core.Path.{_≡_}
 use mathlib.Core.Bool.{cond}
 use mathlib.Core.List.{List, [], _∷_, _++_, map}
-use Prim.Native.Nat.{ℕ, zero, suc, _+_, _-_, _*_, _/_, _%_, _<_}
-use lib.ListN.{length, getD}
+use Prim.Native.Nat.{ℕ, _+_, _-_, _*_, _/_, _%_, _<_}
+use lib.ListN.{length, getD, take, drop}
 use lib.Dec.{eqb, ltb}
 use Rattle.groups.specs.Group.{Group, Codes, sub}
 use Rattle.groups.specs.Total.{total}
@@ -50,6 +50,10 @@ column blocks k = map (λ b. at b k) blocks
 -- the block of party p
 abbrev pub block : List (List ℕ) → ℕ → List ℕ
 block shares p = getD shares p []
+
+-- the blocks of all parties but p
+abbrev pub others : ℕ → List (List ℕ) → List (List ℕ)
+others p shares = take p shares ++ drop (p + 1) shares
 
 -- A deal is lawful when its numbers are codes, as many as there should be, and the shares of every column add to what is owed.
 pub record Lawful (G : Group) (net : Net) (d : Deal) : Type 0 where

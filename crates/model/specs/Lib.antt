@@ -3,4 +3,8 @@ pub mod Net
 pub mod Clear
 pub mod Deal
 pub mod Tape
+pub mod Host
+pub mod Shelf
+pub mod Place
 pub mod Worked
+pub mod Shifted

@@ -1,0 +1,5 @@
+pub mod Evaluation
+pub mod Script
+pub mod Secrecy
+pub mod Honest
+pub mod Computed
