@@ -90,11 +90,21 @@ fn time_parts<'a>(
         let mut part = vec![in heap; 0u8; part_length(&circuit, party)?]?;
         let start = Instant::now(rt)?;
         for _ in 0..100 {
-            deal_part(&group, &circuit, tape.as_slice(), party, masks.as_mut_slice(), part.as_mut_slice())?;
+            deal_part(
+                &group,
+                &circuit,
+                tape.as_slice(),
+                party,
+                masks.as_mut_slice(),
+                part.as_mut_slice(),
+            )?;
         }
         let micros = start.elapsed(rt)?.as_micros() / 100;
         let length = tape.len();
-        println!(rt, "PART of party {party} of 8, {looks} LOOK gates, tape of {length}: {micros} us")?;
+        println!(
+            rt,
+            "PART of party {party} of 8, {looks} LOOK gates, tape of {length}: {micros} us"
+        )?;
     }
     Ok(())
 }
@@ -104,7 +114,11 @@ fn time_part(rt: &LibcRuntime) -> Result<(), AnyError> {
     let file = circuit_file(heap, 8, 4096)?;
     let mut records = vec![in heap; NO_GATE; 4096]?;
     let mut outputs = vec![in heap; 0u16; 1]?;
-    let contents = read(file.as_slice(), records.as_mut_slice(), outputs.as_mut_slice())?;
+    let contents = read(
+        file.as_slice(),
+        records.as_mut_slice(),
+        outputs.as_mut_slice(),
+    )?;
     let found = contents.looks;
     println!(rt, "a circuit of 4096 gates, {found} of them LOOK")?;
     time_parts(rt, file.as_slice(), records.as_slice(), outputs.as_slice())

@@ -4,6 +4,7 @@ ghost use mathlib.Core.List.{map};
 ghost use Prim.Native.Nat.{ℕ, _<_, _≤_};
 ghost use lib.ListN.{length};
 ghost use Rattle.files.specs.declared.gate.Kind.the-variants.{Look};
+ghost use Rattle.groups.specs.Group.{sub};
 ghost use Rattle.model.specs.Words.{at, each, Below};
 ghost use Rattle.model.specs.Net.{wires, tableCount};
 ghost use Rattle.model.specs.Deal.{cells, columns, cell, owedAt, owed};
@@ -12,6 +13,13 @@ use circuits::Circuit;
 use files::Gate;
 use files::Kind;
 use groups::masks::MaskGroup;
+
+// The value that a masked value stands for.
+fn unmasked<G: MaskGroup>(group: &G, masked: u8, mask: u8) -> u8
+    ensures { λ r. ⌜ r ≡ sub (means (now (group .entry))) masked mask ⌝ }
+{
+    group.subtract(masked, mask)
+}
 
 // Masks the table of a LOOK gate that writes `wire`: at j it has what the table has at j less the operand's mask, plus the
 // mask of the wire.
@@ -36,7 +44,7 @@ fn mask_table<G: MaskGroup>(
     let operand = masks[gate.first as usize];
     let result = masks[wire];
     for j in 0..masked.len() {
-        let place = group.subtract(j as u8, operand);
+        let place = unmasked(group, j as u8, operand);
         masked[j] = group.add(tables[start + place as usize], result);
     }
 }

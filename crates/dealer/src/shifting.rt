@@ -65,7 +65,10 @@ fn masked_entry<G: MaskGroup>(
 {
     let place = group.subtract(j, operand);
     let tables = circuit.tables();
-    group.add(tables[table * circuit.size() as usize + place as usize], result)
+    group.add(
+        tables[table * circuit.size() as usize + place as usize],
+        result,
+    )
 }
 
 // Shifts the cells of a LOOK gate that writes `wire`: each gains what the table masked by the moved masks has there, less what
@@ -203,7 +206,14 @@ fn write_shifted<G: MaskGroup>(
     let own = copy_own(circuit.owners(), differences, party, shifted);
     add_front(group, part, own, shifted);
     let end = shifted.len();
-    shift_block(group, circuit, masks, differences, &part[own..end], &mut shifted[own..end]);
+    shift_block(
+        group,
+        circuit,
+        masks,
+        differences,
+        &part[own..end],
+        &mut shifted[own..end],
+    );
 }
 
 /// SHIFT: the part of `party` after the mask of each wire has moved by its difference, all other parts being kept.
@@ -224,7 +234,15 @@ pub fn shift_part<G: MaskGroup>(
     ensures tested { λ r. ⌜ Tested (shiftFault (means (now (group .entry))) (net (now (circuit .entry))) party (now (masks .entry)) (now (differences .entry)) (now (part .entry)) (length (now (shifted .entry)))) r (λ _. now (shifted .exit) ≡ shiftedPart (means (now (group .entry))) (net (now (circuit .entry))) party (now (masks .entry)) (now (differences .entry)) (now (part .entry))) ⌝ }
     ensures kept { λ r. ⌜ Cases r (λ _. Unit {0}) (λ _. now (shifted .exit) ≡ now (shifted .entry)) ⌝ }
 {
-    test(group, circuit, party, masks, differences, part, shifted.len())?;
+    test(
+        group,
+        circuit,
+        party,
+        masks,
+        differences,
+        part,
+        shifted.len(),
+    )?;
     write_shifted(group, circuit, party, masks, differences, part, shifted);
     Ok(())
 }

@@ -93,22 +93,22 @@ loop-gate-again g c =
     let same = c .size-size .ensures .is in
     let n = (start + size) - start in
     elim (c .match-gate .came) [
-      in-Look w ↦
-        let so = look-gate N items k meant (circuit .wired) in-items (w .in-Look .is) in
-        let room = cells-room G N ms k gate so in
-        let within : start ≤ length block = omega (arith, c .loop-gate .inv .1, c .pre .room) in
-        let rest = postOf start n block in
-        let new = w .shift-table .ensures ∙ ap (λ x. each (N .size) (λ j. G .add (at (take n (drop start block)) j) (sub G (cell G N (movedMasks G ms ds) (record { wire = x; operand = gate .first; table = gate .second }) j) (cell G N ms (record { wire = x; operand = gate .first; table = gate .second }) j)))) (c .loop-gate .inv .0) in
-        let is = w .block-is ∙ ap (λ ys. take start block ++ (ys ++ rest)) new in
-        let more = tables-shifted G ms ds N k gate so was block rest start n (c .loop-gate .inv .1) (omega arith) within (λ i. getD-drop n (drop start block) i 0 ∙ getD-drop start block (n + i) 0) (c .loop-gate .inv .2) in (
-          omega (arith, c .loop-gate .inv .0),
-          w .start-is ∙ start-look N items k start meant in-items (c .loop-gate .inv .1) size same (w .in-Look .is),
-          record {
-            done = λ j h. ap (λ xs. at xs j) is ∙ more .done j (omega (arith, w .start-is, same));
-            left = λ j h. ap (λ xs. at xs j) is ∙ more .left j (omega (arith, w .start-is, same));
-          },
-        )
-    | in-rest w ↦ (
+      | in-Look w ↦
+          let so = look-gate N items k meant (circuit .wired) in-items (w .in-Look .is) in
+          let room = cells-room G N ms k gate so in
+          let within : start ≤ length block = omega (arith, c .loop-gate .inv .1, c .pre .room) in
+          let rest = postOf start n block in
+          let new = w .shift-table .ensures ∙ ap (λ x. each (N .size) (λ j. G .add (at (take n (drop start block)) j) (sub G (cell G N (movedMasks G ms ds) (record { wire = x; operand = gate .first; table = gate .second }) j) (cell G N ms (record { wire = x; operand = gate .first; table = gate .second }) j)))) (c .loop-gate .inv .0) in
+          let is = w .block-is ∙ ap (λ ys. take start block ++ (ys ++ rest)) new in
+          let more = tables-shifted G ms ds N k gate so was block rest start n (c .loop-gate .inv .1) (omega arith) within (λ i. getD-drop n (drop start block) i 0 ∙ getD-drop start block (n + i) 0) (c .loop-gate .inv .2) in (
+            omega (arith, c .loop-gate .inv .0),
+            w .start-is ∙ start-look N items k start meant in-items (c .loop-gate .inv .1) size same (w .in-Look .is),
+            record {
+              done = λ j h. ap (λ xs. at xs j) is ∙ more .done j (omega (arith, w .start-is, same));
+              left = λ j h. ap (λ xs. at xs j) is ∙ more .left j (omega (arith, w .start-is, same));
+            },
+          )
+      | in-rest w ↦ (
         omega (arith, c .loop-gate .inv .0),
         w .start-is ∙ start-rest N items k start meant in-items (c .loop-gate .inv .1) (w .in-rest .not-Look),
         record {
