@@ -1,3 +1,5 @@
+#![tactic(auto)]
+
 // One real task from first to last: the example circuit's file is read and tested, made a circuit, run in the
 // clear, and dealt to its parties.
 use circuits::Circuit;

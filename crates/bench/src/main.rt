@@ -1,3 +1,5 @@
+#![tactic(auto)]
+
 // Figures, when asked for by a word on the command line; without one it says which there are, so that its run is fixed.
 use circuits::Circuit;
 use dealer::{deal_part, part_length, tape_length};

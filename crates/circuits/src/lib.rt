@@ -1,5 +1,7 @@
 //! Circuits as they are held: lent sections, and what every circuit keeps.
 
+#![tactic(auto)]
+
 mod circuit;
 mod counts;
 mod making;

@@ -21,11 +21,11 @@ fn row(rows: &[u8], r: usize) -> [u8; 8]
 
 // The value that a gate gives its wire, from those of all wires before it.
 fn gate_value<G: MaskGroup>(group: &G, circuit: &Circuit<'_>, known: &[u8], gate: &Gate) -> u8
-    requires size { (means group.now).size ≡ (net circuit.now).size }
+    requires size { (G.means group.now).size ≡ (net circuit.now).size }
     requires codes { Below (net circuit.now).size known.now }
     requires first { first_of (gate_of gate.now) < length known.now }
     requires second { second_of (gate_of gate.now) < limit (net circuit.now).size (row_count (net circuit.now)) (table_count (net circuit.now)) (length known.now) (gate_of gate.now) }
-    ensures is { result ≡ step (means group.now) (net circuit.now) (clearly (means group.now) (net circuit.now)) 0 known.now (gate_of gate.now) }
+    ensures is { result ≡ step (G.means group.now) (net circuit.now) (clearly (G.means group.now) (net circuit.now)) 0 known.now (gate_of gate.now) }
     ensures code { result < (net circuit.now).size }
 {
     let x = known[gate.first as usize];
@@ -40,10 +40,10 @@ fn gate_value<G: MaskGroup>(group: &G, circuit: &Circuit<'_>, known: &[u8], gate
 
 // Fills the wires that follow the inputs, whose values stand at the front.
 pub(crate) fn run_gates<G: MaskGroup>(group: &G, circuit: &Circuit<'_>, wires: &mut [u8])
-    requires size { (means group.now).size ≡ (net circuit.now).size }
+    requires size { (G.means group.now).size ≡ (net circuit.now).size }
     requires places { length wires.old ≡ allWires (net circuit.now) }
     requires codes { Below (net circuit.now).size (take (inputs (net circuit.now)) wires.old) }
-    ensures { wires.new ≡ flow (means group.now) (net circuit.now) (clearly (means group.now) (net circuit.now)) (take (inputs (net circuit.now)) wires.old) }
+    ensures { wires.new ≡ flow (G.means group.now) (net circuit.now) (clearly (G.means group.now) (net circuit.now)) (take (inputs (net circuit.now)) wires.old) }
 {
     let mut wire = circuit.input_count();
     for gate in circuit.gates() {

@@ -20,7 +20,7 @@ fn test<G: MaskGroup>(
     wire_places: usize,
     output_places: usize,
 ) -> Result<(), Refusal>
-    ensures { Tested (run_fault (means group.now) (net circuit.now) values.now wire_places output_places) result (λ _. Ready (means group.now) (net circuit.now) values.now wire_places output_places) }
+    ensures { Tested (run_fault (G.means group.now) (net circuit.now) values.now wire_places output_places) result (λ _. Ready (G.means group.now) (net circuit.now) values.now wire_places output_places) }
 {
     if group.size() != circuit.size() {
         return Err(Refusal::Counts);
@@ -56,9 +56,9 @@ fn run_tested<G: MaskGroup>(
     wires: &mut [u8],
     outputs: &mut [u8],
 )
-    requires { Ready (means group.now) (net circuit.now) values.now (length wires.old) (length outputs.old) }
-    ensures wires { wires.new ≡ clear (means group.now) (net circuit.now) values.now }
-    ensures outputs { outputs.new ≡ outputs_of (net circuit.now) (clear (means group.now) (net circuit.now) values.now) }
+    requires { Ready (G.means group.now) (net circuit.now) values.now (length wires.old) (length outputs.old) }
+    ensures wires { wires.new ≡ clear (G.means group.now) (net circuit.now) values.now }
+    ensures outputs { outputs.new ≡ outputs_of (net circuit.now) (clear (G.means group.now) (net circuit.now) values.now) }
 {
     wires[0..values.len()].copy_from_slice(values);
     run_gates(group, circuit, wires);
@@ -74,7 +74,7 @@ pub fn evaluate<G: MaskGroup>(
     wires: &mut [u8],
     outputs: &mut [u8],
 ) -> Result<(), Refusal>
-    ensures tested { Tested (run_fault (means group.now) (net circuit.now) values.now (length wires.old) (length outputs.old)) result (λ _. (wires.new ≡ clear (means group.now) (net circuit.now) values.now) × (outputs.new ≡ outputs_of (net circuit.now) (clear (means group.now) (net circuit.now) values.now))) }
+    ensures tested { Tested (run_fault (G.means group.now) (net circuit.now) values.now (length wires.old) (length outputs.old)) result (λ _. (wires.new ≡ clear (G.means group.now) (net circuit.now) values.now) × (outputs.new ≡ outputs_of (net circuit.now) (clear (G.means group.now) (net circuit.now) values.now))) }
     ensures kept { OnErr result ((wires.new ≡ wires.old) × (outputs.new ≡ outputs.old)) }
 {
     test(group, circuit, values, wires.len(), outputs.len())?;

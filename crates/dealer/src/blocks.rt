@@ -20,12 +20,12 @@ fn complete<G: MaskGroup>(
     dealt: &[u8],
     block: &mut [u8],
 )
-    requires size { (means group.now).size ≡ (net circuit.now).size }
+    requires size { (G.means group.now).size ≡ (net circuit.now).size }
     requires masks { length masks.now ≡ wires (net circuit.now) }
     requires codes { Below (net circuit.now).size masks.now }
     requires dealt { length dealt.now ≡ ((net circuit.now).parties - 1) * columns (net circuit.now) }
     requires places { length block.old ≡ columns (net circuit.now) }
-    ensures { block.new ≡ last_block (means group.now) (net circuit.now) masks.now (pieces ((net circuit.now).parties - 1) (columns (net circuit.now)) dealt.now) }
+    ensures { block.new ≡ last_block (G.means group.now) (net circuit.now) masks.now (pieces ((net circuit.now).parties - 1) (columns (net circuit.now)) dealt.now) }
 {
     write_owed(group, circuit, masks, block);
     subtract_others(group, dealt, circuit.parties() as usize - 1, block);
@@ -40,13 +40,13 @@ pub(crate) fn write_block<G: MaskGroup>(
     party: u8,
     block: &mut [u8],
 )
-    requires size { (means group.now).size ≡ (net circuit.now).size }
+    requires size { (G.means group.now).size ≡ (net circuit.now).size }
     requires masks { length masks.now ≡ wires (net circuit.now) }
     requires codes { Below (net circuit.now).size masks.now }
     requires dealt { length dealt.now ≡ ((net circuit.now).parties - 1) * columns (net circuit.now) }
     requires party { party < (net circuit.now).parties }
     requires places { length block.old ≡ columns (net circuit.now) }
-    ensures { block.new ≡ slice_index_or (blocks (means group.now) (net circuit.now) masks.now dealt.now) party [] }
+    ensures { block.new ≡ slice_index_or (blocks (G.means group.now) (net circuit.now) masks.now dealt.now) party [] }
 {
     if party as u16 + 1 == circuit.parties() {
         complete(group, circuit, masks, dealt, block);

@@ -12,7 +12,7 @@ use refusals::Refusal;
 ///
 /// Where the number of codes divides 256, uniform bytes give uniform codes; elsewhere small codes come more often.
 pub fn fill<G: MaskGroup>(group: &G, random: &[u8], tape: &mut [u8]) -> Result<(), Refusal>
-    ensures tested { Tested (fill_fault (length random.now) (length tape.old)) result (λ _. (tape.new ≡ filled (means group.now).size random.now) × Codes (means group.now) tape.new) }
+    ensures tested { Tested (fill_fault (length random.now) (length tape.old)) result (λ _. (tape.new ≡ filled (G.means group.now).size random.now) × Codes (G.means group.now) tape.new) }
     ensures kept { OnErr result (tape.new ≡ tape.old) }
 {
     if random.len() != tape.len() {

@@ -9,7 +9,7 @@ use groups::masks::MaskGroup;
 /// States that tapes of codes and lawful deals are one to one, for this circuit over this group if their sizes agree, and
 /// for every valid circuit over every group: a theorem, and no work.
 pub fn tapes_are_lawful_deals<G: MaskGroup>(group: &G, circuit: &Circuit<'_>)
-    ensures here { (means group.now).size ≡ (net circuit.now).size → OneToOne (means group.now) (net circuit.now) }
+    ensures here { (G.means group.now).size ≡ (net circuit.now).size → OneToOne (G.means group.now) (net circuit.now) }
     ensures all { TapesAreDeals }
 {
     let _ = group;

@@ -1,5 +1,7 @@
 //! The dealer: masks on every wire, deals that tapes stand for, and each party's part of a deal.
 
+#![tactic(auto)]
+
 mod blocks;
 mod filling;
 mod lawful;

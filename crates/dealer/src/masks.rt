@@ -42,7 +42,7 @@ fn gate_mask<G: MaskGroup>(
     requires first { first_of (gate_of gate.now) < length known.now }
     requires second { second_of (gate_of gate.now) < limit (net circuit.now).size (row_count (net circuit.now)) (table_count (net circuit.now)) (length known.now) (gate_of gate.now) }
     requires dealt { ordinal + mark (is_look (gate_of gate.now)) ≤ length looks.now }
-    ensures { result ≡ step (means group.now) (net circuit.now) (masking looks.now) ordinal known.now (gate_of gate.now) }
+    ensures { result ≡ step (G.means group.now) (net circuit.now) (masking looks.now) ordinal known.now (gate_of gate.now) }
 {
     let x = known[gate.first as usize];
     let second = gate.second as usize;
@@ -64,7 +64,7 @@ pub(crate) fn mask_gates<G: MaskGroup>(
 )
     requires looks { length looks.now ≡ look_total (net circuit.now) }
     requires places { length masks.old ≡ wires (net circuit.now) }
-    ensures { masks.new ≡ flow (means group.now) (net circuit.now) (masking looks.now) (take (inputs (net circuit.now)) masks.old) }
+    ensures { masks.new ≡ flow (G.means group.now) (net circuit.now) (masking looks.now) (take (inputs (net circuit.now)) masks.old) }
 {
     let mut wire = circuit.input_count();
     let mut ordinal = 0;

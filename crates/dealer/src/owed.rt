@@ -13,7 +13,7 @@ use groups::masks::MaskGroup;
 
 // The value that a masked value stands for.
 fn unmasked<G: MaskGroup>(group: &G, masked: u8, mask: u8) -> u8
-    ensures { result ≡ sub (means group.now) masked mask }
+    ensures { result ≡ sub (G.means group.now) masked mask }
 {
     group.subtract(masked, mask)
 }
@@ -28,13 +28,13 @@ fn mask_table<G: MaskGroup>(
     wire: usize,
     masked: &mut [u8],
 )
-    requires size { (means group.now).size ≡ (net circuit.now).size }
+    requires size { (G.means group.now).size ≡ (net circuit.now).size }
     requires codes { Below (net circuit.now).size masks.now }
     requires operand { gate.now.first < length masks.now }
     requires wire { wire < length masks.now }
     requires table { gate.now.second < table_count (net circuit.now) }
     requires places { length masked.old ≡ (net circuit.now).size }
-    ensures { masked.new ≡ each (net circuit.now).size (cell (means group.now) (net circuit.now) masks.now (record { wire = wire; operand = gate.now.first; table = gate.now.second })) }
+    ensures { masked.new ≡ each (net circuit.now).size (cell (G.means group.now) (net circuit.now) masks.now (record { wire = wire; operand = gate.now.first; table = gate.now.second })) }
 {
     let tables = circuit.tables();
     let start = gate.second as usize * circuit.size() as usize;
@@ -48,11 +48,11 @@ fn mask_table<G: MaskGroup>(
 
 // Writes the masked table of each LOOK gate, one after another.
 fn mask_tables<G: MaskGroup>(group: &G, circuit: &Circuit<'_>, masks: &[u8], block: &mut [u8])
-    requires size { (means group.now).size ≡ (net circuit.now).size }
+    requires size { (G.means group.now).size ≡ (net circuit.now).size }
     requires masks { length masks.now ≡ wires (net circuit.now) }
     requires codes { Below (net circuit.now).size masks.now }
     requires room { cells (net circuit.now) ≤ length block.old }
-    ensures { (k : ℕ) → k < cells (net circuit.now) → at block.new k ≡ owed_at (means group.now) (net circuit.now) masks.now k }
+    ensures { (k : ℕ) → k < cells (net circuit.now) → at block.new k ≡ owed_at (G.means group.now) (net circuit.now) masks.now k }
 {
     let size = circuit.size() as usize;
     let mut wire = circuit.input_count();
@@ -85,11 +85,11 @@ pub(crate) fn write_owed<G: MaskGroup>(
     masks: &[u8],
     block: &mut [u8],
 )
-    requires size { (means group.now).size ≡ (net circuit.now).size }
+    requires size { (G.means group.now).size ≡ (net circuit.now).size }
     requires masks { length masks.now ≡ wires (net circuit.now) }
     requires codes { Below (net circuit.now).size masks.now }
     requires places { length block.old ≡ columns (net circuit.now) }
-    ensures { block.new ≡ owed (means group.now) (net circuit.now) masks.now }
+    ensures { block.new ≡ owed (G.means group.now) (net circuit.now) masks.now }
 {
     mask_tables(group, circuit, masks, block);
     let start = circuit.look_count() as usize * circuit.size() as usize;

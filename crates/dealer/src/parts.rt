@@ -25,7 +25,7 @@ fn test<G: MaskGroup>(
     mask_places: usize,
     part_places: usize,
 ) -> Result<(), Refusal>
-    ensures { Tested (part_fault (means group.now) (net circuit.now) tape.now party mask_places part_places) result (λ _. Ready (means group.now) (net circuit.now) tape.now party mask_places part_places) }
+    ensures { Tested (part_fault (G.means group.now) (net circuit.now) tape.now party mask_places part_places) result (λ _. Ready (G.means group.now) (net circuit.now) tape.now party mask_places part_places) }
 {
     if group.size() != circuit.size() {
         return Err(Refusal::Counts);
@@ -47,7 +47,7 @@ fn test<G: MaskGroup>(
 fn write_masks<G: MaskGroup>(group: &G, circuit: &Circuit<'_>, tape: &[u8], masks: &mut [u8])
     requires tape { length tape.now ≡ tape_length (net circuit.now) }
     requires places { length masks.old ≡ wires (net circuit.now) }
-    ensures { masks.new ≡ masksOf (means group.now) (net circuit.now) (deal_of (means group.now) (net circuit.now) tape.now) }
+    ensures { masks.new ≡ masksOf (G.means group.now) (net circuit.now) (deal_of (G.means group.now) (net circuit.now) tape.now) }
 {
     let inputs = circuit.input_count();
     let end = inputs + circuit.look_count() as usize;
@@ -64,9 +64,9 @@ fn write_part<G: MaskGroup>(
     masks: &[u8],
     part: &mut [u8],
 )
-    requires ready { Ready (means group.now) (net circuit.now) tape.now party (length masks.now) (length part.old) }
-    requires masks { masks.now ≡ masksOf (means group.now) (net circuit.now) (deal_of (means group.now) (net circuit.now) tape.now) }
-    ensures { part.new ≡ part_of (net circuit.now) party (deal_of (means group.now) (net circuit.now) tape.now) }
+    requires ready { Ready (G.means group.now) (net circuit.now) tape.now party (length masks.now) (length part.old) }
+    requires masks { masks.now ≡ masksOf (G.means group.now) (net circuit.now) (deal_of (G.means group.now) (net circuit.now) tape.now) }
+    ensures { part.new ≡ part_of (net circuit.now) party (deal_of (G.means group.now) (net circuit.now) tape.now) }
 {
     let inputs = circuit.input_count();
     let own = copy_own(circuit.owners(), &masks[0..inputs], party, part);
@@ -89,7 +89,7 @@ pub fn deal_part<G: MaskGroup>(
     masks: &mut [u8],
     part: &mut [u8],
 ) -> Result<(), Refusal>
-    ensures tested { Tested (part_fault (means group.now) (net circuit.now) tape.now party (length masks.old) (length part.old)) result (λ _. (masks.new ≡ masksOf (means group.now) (net circuit.now) (deal_of (means group.now) (net circuit.now) tape.now)) × (part.new ≡ part_of (net circuit.now) party (deal_of (means group.now) (net circuit.now) tape.now)) × Lawful (means group.now) (net circuit.now) (deal_of (means group.now) (net circuit.now) tape.now)) }
+    ensures tested { Tested (part_fault (G.means group.now) (net circuit.now) tape.now party (length masks.old) (length part.old)) result (λ _. (masks.new ≡ masksOf (G.means group.now) (net circuit.now) (deal_of (G.means group.now) (net circuit.now) tape.now)) × (part.new ≡ part_of (net circuit.now) party (deal_of (G.means group.now) (net circuit.now) tape.now)) × Lawful (G.means group.now) (net circuit.now) (deal_of (G.means group.now) (net circuit.now) tape.now)) }
     ensures kept { OnErr result ((masks.new ≡ masks.old) × (part.new ≡ part.old)) }
 {
     test(group, circuit, tape, party, masks.len(), part.len())?;

@@ -12,7 +12,7 @@ use groups::masks::MaskGroup;
 fn column_sum<G: MaskGroup>(group: &G, blocks: &[u8], count: usize, width: usize, k: usize) -> u8
     requires whole { count * width ≤ length blocks.now }
     requires within { k < width }
-    ensures { result ≡ total (means group.now) (column (pieces count width blocks.now) k) }
+    ensures { result ≡ total (G.means group.now) (column (pieces count width blocks.now) k) }
 {
     let mut sum = 0;
     for p in 0..count {
@@ -29,7 +29,7 @@ pub(crate) fn subtract_others<G: MaskGroup>(
     block: &mut [u8],
 )
     requires { count * length block.old ≤ length others.now }
-    ensures { block.new ≡ each (length block.old) (λ k. sub (means group.now) (at block.old k) (total (means group.now) (column (pieces count (length block.old) others.now) k))) }
+    ensures { block.new ≡ each (length block.old) (λ k. sub (G.means group.now) (at block.old k) (total (G.means group.now) (column (pieces count (length block.old) others.now) k))) }
 {
     let width = block.len();
     for k in 0..width {

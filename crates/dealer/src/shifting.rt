@@ -28,7 +28,7 @@ fn test<G: MaskGroup>(
     part: &[u8],
     places: usize,
 ) -> Result<(), Refusal>
-    ensures { Tested (shift_fault (means group.now) (net circuit.now) party masks.now differences.now part.now places) result (λ _. Shiftable (means group.now) (net circuit.now) party masks.now differences.now part.now places) }
+    ensures { Tested (shift_fault (G.means group.now) (net circuit.now) party masks.now differences.now part.now places) result (λ _. Shiftable (G.means group.now) (net circuit.now) party masks.now differences.now part.now places) }
 {
     if group.size() != circuit.size() {
         return Err(Refusal::Counts);
@@ -54,11 +54,11 @@ fn masked_entry<G: MaskGroup>(
     res: u8,
     j: u8,
 ) -> u8
-    requires size { (means group.now).size ≡ (net circuit.now).size }
+    requires size { (G.means group.now).size ≡ (net circuit.now).size }
     requires table { table < table_count (net circuit.now) }
     requires operand { operand < (net circuit.now).size }
     requires within { j < (net circuit.now).size }
-    ensures { result ≡ (means group.now).add (entry_at (net circuit.now) table (sub (means group.now) j operand)) res }
+    ensures { result ≡ (G.means group.now).add (entry_at (net circuit.now) table (sub (G.means group.now) j operand)) res }
 {
     let place = group.subtract(j, operand);
     let tables = circuit.tables();
@@ -79,7 +79,7 @@ fn shift_table<G: MaskGroup>(
     wire: usize,
     cells: &mut [u8],
 )
-    requires size { (means group.now).size ≡ (net circuit.now).size }
+    requires size { (G.means group.now).size ≡ (net circuit.now).size }
     requires moved { length differences.now ≡ length masks.now }
     requires masks { Below (net circuit.now).size masks.now }
     requires differences { Below (net circuit.now).size differences.now }
@@ -87,7 +87,7 @@ fn shift_table<G: MaskGroup>(
     requires wire { wire < length masks.now }
     requires table { gate.now.second < table_count (net circuit.now) }
     requires places { length cells.old ≡ (net circuit.now).size }
-    ensures { cells.new ≡ each (net circuit.now).size (λ j. (means group.now).add (at cells.old j) (sub (means group.now) (cell (means group.now) (net circuit.now) (moved_masks (means group.now) masks.now differences.now) (record { wire = wire; operand = gate.now.first; table = gate.now.second }) j) (cell (means group.now) (net circuit.now) masks.now (record { wire = wire; operand = gate.now.first; table = gate.now.second }) j))) }
+    ensures { cells.new ≡ each (net circuit.now).size (λ j. (G.means group.now).add (at cells.old j) (sub (G.means group.now) (cell (G.means group.now) (net circuit.now) (moved_masks (G.means group.now) masks.now differences.now) (record { wire = wire; operand = gate.now.first; table = gate.now.second }) j) (cell (G.means group.now) (net circuit.now) masks.now (record { wire = wire; operand = gate.now.first; table = gate.now.second }) j))) }
 {
     let table = gate.second as usize;
     let operand = masks[gate.first as usize];
@@ -109,13 +109,13 @@ fn shift_tables<G: MaskGroup>(
     differences: &[u8],
     block: &mut [u8],
 )
-    requires size { (means group.now).size ≡ (net circuit.now).size }
+    requires size { (G.means group.now).size ≡ (net circuit.now).size }
     requires masked { length masks.now ≡ wires (net circuit.now) }
     requires moved { length differences.now ≡ wires (net circuit.now) }
     requires masks { Below (net circuit.now).size masks.now }
     requires differences { Below (net circuit.now).size differences.now }
     requires room { cellCount (net circuit.now) ≤ length block.old }
-    ensures done { (k : ℕ) → k < cellCount (net circuit.now) → at block.new k ≡ shifted_share (means group.now) (net circuit.now) masks.now differences.now (at block.old k) k }
+    ensures done { (k : ℕ) → k < cellCount (net circuit.now) → at block.new k ≡ shifted_share (G.means group.now) (net circuit.now) masks.now differences.now (at block.old k) k }
     ensures left { (k : ℕ) → cellCount (net circuit.now) ≤ k → at block.new k ≡ at block.old k }
 {
     let size = circuit.size() as usize;
@@ -142,7 +142,7 @@ fn shift_outputs<G: MaskGroup>(
     requires masked { length masks.now ≡ wires (net circuit.now) }
     requires moved { length differences.now ≡ wires (net circuit.now) }
     requires places { length places.old ≡ length (net circuit.now).outputs }
-    ensures { places.new ≡ each (length (net circuit.now).outputs) (λ i. (means group.now).add (at places.old i) (sub (means group.now) (at (moved_masks (means group.now) masks.now differences.now) (at (net circuit.now).outputs i)) (at masks.now (at (net circuit.now).outputs i)))) }
+    ensures { places.new ≡ each (length (net circuit.now).outputs) (λ i. (G.means group.now).add (at places.old i) (sub (G.means group.now) (at (moved_masks (G.means group.now) masks.now differences.now) (at (net circuit.now).outputs i)) (at masks.now (at (net circuit.now).outputs i)))) }
 {
     for (i, wire) in circuit.outputs().iter().enumerate() {
         let was = masks[*wire as usize];
@@ -160,14 +160,14 @@ fn shift_block<G: MaskGroup>(
     shares: &[u8],
     block: &mut [u8],
 )
-    requires size { (means group.now).size ≡ (net circuit.now).size }
+    requires size { (G.means group.now).size ≡ (net circuit.now).size }
     requires masked { length masks.now ≡ wires (net circuit.now) }
     requires moved { length differences.now ≡ wires (net circuit.now) }
     requires masks { Below (net circuit.now).size masks.now }
     requires differences { Below (net circuit.now).size differences.now }
     requires shares { length shares.now ≡ columns (net circuit.now) }
     requires places { length block.old ≡ columns (net circuit.now) }
-    ensures { block.new ≡ each (columns (net circuit.now)) (λ k. shifted_share (means group.now) (net circuit.now) masks.now differences.now (at shares.now k) k) }
+    ensures { block.new ≡ each (columns (net circuit.now)) (λ k. shifted_share (G.means group.now) (net circuit.now) masks.now differences.now (at shares.now k) k) }
 {
     block.copy_from_slice(shares);
     shift_tables(group, circuit, masks, differences, block);
@@ -180,7 +180,7 @@ fn shift_block<G: MaskGroup>(
 fn add_front<G: MaskGroup>(group: &G, numbers: &[u8], count: usize, places: &mut [u8])
     requires numbers { count ≤ length numbers.now }
     requires places { count ≤ length places.old }
-    ensures { take count places.new ≡ each count (λ i. (means group.now).add (at numbers.now i) (at places.old i)) }
+    ensures { take count places.new ≡ each count (λ i. (G.means group.now).add (at numbers.now i) (at places.old i)) }
 {
     for i in 0..count {
         places[i] = group.add(numbers[i], places[i]);
@@ -197,8 +197,8 @@ fn write_shifted<G: MaskGroup>(
     part: &[u8],
     shifted: &mut [u8],
 )
-    requires { Shiftable (means group.now) (net circuit.now) party masks.now differences.now part.now (length shifted.old) }
-    ensures { shifted.new ≡ shifted_part (means group.now) (net circuit.now) party masks.now differences.now part.now }
+    requires { Shiftable (G.means group.now) (net circuit.now) party masks.now differences.now part.now (length shifted.old) }
+    ensures { shifted.new ≡ shifted_part (G.means group.now) (net circuit.now) party masks.now differences.now part.now }
 {
     let own = copy_own(circuit.owners(), differences, party, shifted);
     add_front(group, part, own, shifted);
@@ -228,7 +228,7 @@ pub fn shift_part<G: MaskGroup>(
     part: &[u8],
     shifted: &mut [u8],
 ) -> Result<(), Refusal>
-    ensures tested { Tested (shift_fault (means group.now) (net circuit.now) party masks.now differences.now part.now (length shifted.old)) result (λ _. shifted.new ≡ shifted_part (means group.now) (net circuit.now) party masks.now differences.now part.now) }
+    ensures tested { Tested (shift_fault (G.means group.now) (net circuit.now) party masks.now differences.now part.now (length shifted.old)) result (λ _. shifted.new ≡ shifted_part (G.means group.now) (net circuit.now) party masks.now differences.now part.now) }
     ensures kept { OnErr result (shifted.new ≡ shifted.old) }
 {
     test(

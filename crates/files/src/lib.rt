@@ -1,5 +1,7 @@
 //! The circuit file, and READ.
 
+#![tactic(auto)]
+
 mod contents;
 mod counts;
 mod directory;

@@ -1,5 +1,8 @@
 //! Mask groups: the codes 0 to q - 1 under an addition of their own, with 2 to 256 codes, and the maps on codes that
 //! keep sums.
+
+#![tactic(auto)]
+
 ghost use Rattle.std.specs.Prelude.{◌≡◌};
 ghost use Rattle.groups.specs.Choice.{kind_number};
 

@@ -7,7 +7,7 @@ use crate::masks::MaskGroup;
 
 /// The sum of all of `codes`, from the first on; 0 if there is none.
 pub fn sum<G: MaskGroup>(group: &G, codes: &[u8]) -> u8
-    ensures { result ≡ total (means group.now) codes.now }
+    ensures { result ≡ total (G.means group.now) codes.now }
 {
     let mut all = 0;
     for c in codes {
@@ -18,14 +18,14 @@ pub fn sum<G: MaskGroup>(group: &G, codes: &[u8]) -> u8
 
 /// States what the laws give for codes: a theorem, and no work.
 pub fn algebra_holds<G: MaskGroup>(group: &G)
-    ensures { Algebra (means group.now) }
+    ensures { Algebra (G.means group.now) }
 {
     let _ = group;
 }
 
 /// States what the laws give for sums of codes: a theorem, and no work.
 pub fn sums_hold<G: MaskGroup>(group: &G)
-    ensures { Sums (means group.now) }
+    ensures { Sums (G.means group.now) }
 {
     let _ = group;
 }

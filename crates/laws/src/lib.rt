@@ -1,4 +1,7 @@
 //! What is true of circuit files, whoever writes them.
+
+#![tactic(auto)]
+
 ghost use Rattle.laws.specs.Laws.{CircuitsHold, ReadBack, GapsUnread};
 
 /// A valid circuit that is written as a file, with any bytes in the gaps between its sections, is accepted and read as the

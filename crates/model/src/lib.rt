@@ -1,4 +1,7 @@
 //! What is true of circuits, over lists of numbers: definitions, and the worked examples that hold of them.
+
+#![tactic(auto)]
+
 ghost use Rattle.model.specs.Place.{Lifts};
 ghost use Rattle.model.specs.Tape.{TapesAreDeals};
 ghost use Rattle.model.specs.Worked.{Worked};

@@ -1,4 +1,7 @@
 //! Why a call of the library refuses what it was given.
+
+#![tactic(auto)]
+
 ghost use Rattle.std.specs.Prelude.{◌≡◌};
 ghost use Rattle.refusals.specs.Numbers.{number, figure};
 

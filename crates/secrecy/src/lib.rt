@@ -1,4 +1,7 @@
 //! What a host lets see of masked evaluations says nothing of the values entered at it.
+
+#![tactic(auto)]
+
 ghost use Rattle.secrecy.specs.Computed.{ShiftComputed};
 ghost use Rattle.secrecy.specs.Evaluation.{DifferenceFollows};
 ghost use Rattle.secrecy.specs.Honest.{Honest};

@@ -1,5 +1,7 @@
 //! Examples that are executed: files good and damaged, places spoilt, groups, clear runs and deals.
 
+#![tactic(auto)]
+
 #[cfg(test)]
 mod bytes;
 #[cfg(test)]

@@ -13,7 +13,7 @@ loop-gate-init g c =
     let G = g.G.MaskGroup.means c.args.group.now in
     let N = net c.args.circuit.now in
     let ws = c.args.wires.now in
-    let first = c.input-count-wire.ensures.is in
+    let first = c.input_count-wire.ensures.is in
     let meant = c.gates-gate-items.ensures.meant in
     let count = sym (length-map c.gates-gate-items.result.now gate_of) ∙ ap length meant in (
       omega (arith, first),
@@ -22,8 +22,8 @@ loop-gate-init g c =
       ap₂ (λ n gs. grow G N (clearly G N) 0 (take n ws) gs) first meant,
     )
 
-pub gate-value-value-requires : goal.gate-value-value-requires
-gate-value-value-requires g c =
+pub gate_value-value-requires : goal.gate_value-value-requires
+gate_value-value-requires g c =
     let circuit = c.args.circuit.now in
     let ws = c.loop-gate.wires in
     let n = c.loop-gate.wire in
@@ -41,14 +41,14 @@ loop-gate-preserved g c =
     let ws = c.loop-gate.wires in
     let n = c.loop-gate.wire in
     let k = c.loop-gate.gate-index in
-    let v = c.gate-value-value.result in
+    let v = c.gate_value-value.result in
     let room : n < length ws = omega arith in
     let whole : n - 0 ≡ n = omega arith in
     let value : v ≡ step G N (clearly G N) 0 (take n ws) (gate_of (get_or items k no_gate)) =
-    subst (λ m. v ≡ step G N (clearly G N) 0 (take m ws) (gate_of (get_or items k no_gate))) whole c.gate-value-value.ensures.is in (
+    subst (λ m. v ≡ step G N (clearly G N) 0 (take m ws) (gate_of (get_or items k no_gate))) whole c.gate_value-value.ensures.is in (
       omega arith,
       omega (arith, length-set ws n v),
-      codes_more N.size ws n v room c.loop-gate.invariant.2 c.gate-value-value.ensures.code,
+      codes_more N.size ws n v room c.loop-gate.invariant.2 c.gate_value-value.ensures.code,
       grow_more G N items ws n k (flow G N (clearly G N) (take (inputs N) c.args.wires.now)) c.loop-gate.invariant.3 v c.loop-gate-test.true room value,
     )
 

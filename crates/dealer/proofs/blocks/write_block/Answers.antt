@@ -19,5 +19,5 @@ returns-else-party-parties g c =
     let width : (p * n + n) - p * n ≡ columns N = omega (arith, c.requires.places) in
     let start : p * n ≡ p * columns N = ap (λ k. p * k) c.requires.places in
     let early : p + 1 < N.parties = omega (arith, c.parties.ensures.is, c.requires.party, c.if-party-parties.false) in
-    c.copy-from-slice.ensures.after ∙ ap₂ (λ k s. take k (drop s dealt)) width start
+    c.copy_from_slice.ensures.after ∙ ap₂ (λ k s. take k (drop s dealt)) width start
     ∙ block_piece (g.G.MaskGroup.means c.args.group.now) N c.args.masks.now dealt p early

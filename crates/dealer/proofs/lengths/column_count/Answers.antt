@@ -6,5 +6,5 @@ pub returns : goal.returns
 returns c =
     record {
       is = cc;
-      within = omega (arith, mul-le c.look-count.result c.size.result 240 256 c.look-count.ensures.within c.size.ensures.within.1);
+      within = omega (arith, mul-le c.look_count.result c.size.result 240 256 c.look_count.ensures.within c.size.ensures.within.1);
     }

@@ -14,7 +14,7 @@ loop-gate-init g c =
     let N = net c.args.circuit.now in
     let ms = c.args.masks.now in
     let looks = c.args.looks.now in
-    let first = c.input-count-wire.ensures.is in
+    let first = c.input_count-wire.ensures.is in
     let meant = c.gates-gate-items.ensures.meant in
     let count = sym (length-map c.gates-gate-items.result.now gate_of) ∙ ap length meant in
     let looked = ap look_count meant in (
@@ -24,8 +24,8 @@ loop-gate-init g c =
       ap₂ (λ n gs. grow G N (masking looks) 0 (take n ms) gs) first meant,
     )
 
-pub gate-mask-mask-requires : goal.gate-mask-mask-requires
-gate-mask-mask-requires g c =
+pub gate_mask-mask-requires : goal.gate_mask-mask-requires
+gate_mask-mask-requires g c =
     let circuit = c.args.circuit.now in
     let items = c.gates-gate-items.result.now in
     let k = c.loop-gate.gate-index in
@@ -44,16 +44,16 @@ loop-gate-preserved g c =
     let ms = c.loop-gate.masks in
     let n = c.loop-gate.wire in
     let k = c.loop-gate.gate-index in
-    let v = c.gate-mask-mask.result in
+    let v = c.gate_mask-mask.result in
     let room : n < length ms = omega arith in
     let whole : n - 0 ≡ n = omega arith in
     let value : v ≡ step G N rules c.loop-gate.ordinal (take n ms) (gate_of (get_or items k no_gate)) =
-    c.gate-mask-mask.ensures ∙ ap (λ m. step G N rules c.loop-gate.ordinal (take m ms) (gate_of (get_or items k no_gate))) whole in
+    c.gate_mask-mask.ensures ∙ ap (λ m. step G N rules c.loop-gate.ordinal (take m ms) (gate_of (get_or items k no_gate))) whole in
     let more = looks_more items k c.loop-gate-test.true in (
       omega arith,
       omega (arith, length-set ms n v),
-      omega (arith, c.loop-gate.invariant.2, c.look-mark-ordinal.ensures.is),
-      grow_more G N rules items ms n k c.loop-gate.ordinal _ _ v c.loop-gate.invariant.3 c.loop-gate-test.true room value (ap (λ m. c.loop-gate.ordinal + m) c.look-mark-ordinal.ensures.is),
+      omega (arith, c.loop-gate.invariant.2, c.look_mark-ordinal.ensures.is),
+      grow_more G N rules items ms n k c.loop-gate.ordinal _ _ v c.loop-gate.invariant.3 c.loop-gate-test.true room value (ap (λ m. c.loop-gate.ordinal + m) c.look_mark-ordinal.ensures.is),
     )
 
 pub returns : goal.returns

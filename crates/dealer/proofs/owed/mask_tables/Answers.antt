@@ -8,7 +8,7 @@ use Rattle.files.specs.Gates.{no_gate}
 use Rattle.circuits.specs.Circuits.{net}
 use Rattle.dealer.proofs.Tables.{look_gate, cells_room, cells_few, start_look, start_rest, start_all, tables_more}
 use Rattle.dealer.proofs.owed.mask_tables.Goals as goal
-use Rattle.dealer.proofs.owed.mask_tables.Goals.{in-Look, in-default}
+use Rattle.dealer.proofs.owed.mask_tables.Goals.{in-Look, in_default}
 
 pub overflow-add-masked : goal.overflow-add-masked
 overflow-add-masked g c =
@@ -31,8 +31,8 @@ slice-bounds-masked-end g c =
     let room = cells_room (g.G.MaskGroup.means c.args.group.now) (net circuit) ms k (get_or items k no_gate) so in
     omega (arith, c.loop-gate.invariant.1, c.size-size.ensures.is, c.requires.room)
 
-pub mask-table-requires : goal.mask-table-requires
-mask-table-requires g c =
+pub mask_table-requires : goal.mask_table-requires
+mask_table-requires g c =
     let circuit = c.args.circuit.now in
     let ms = c.args.masks.now in
     let k = c.loop-gate.gate-index in
@@ -84,7 +84,7 @@ loop-gate-preserved g c =
           let room = cells_room G N ms k gate so in
           let within : start ≤ length block = omega (arith, c.loop-gate.invariant.1, c.requires.room) in
           let rest = post_of start ((start + size) - start) block in
-          let masked = w.mask-table.ensures ∙ ap (λ n. each N.size (cell G N ms (record { wire = n; operand = gate.first; table = gate.second }))) c.loop-gate.invariant.0 in
+          let masked = w.mask_table.ensures ∙ ap (λ n. each N.size (cell G N ms (record { wire = n; operand = gate.first; table = gate.second }))) c.loop-gate.invariant.0 in
           let is = w.block-is ∙ ap (λ ys. take start block ++ (ys ++ rest)) masked in (
             omega (arith, c.loop-gate.invariant.0),
             w.start-is ∙ start_look N items k start meant in-items c.loop-gate.invariant.1 size same w.in-Look.is,
@@ -92,9 +92,9 @@ loop-gate-preserved g c =
                 ap (λ xs. at xs j) is
                 ∙ tables_more G N ms k gate so block rest start c.loop-gate.invariant.1 within c.loop-gate.invariant.2 j (omega (arith, w.start-is, same)),
           )
-      | in-default w ↦ (
+      | in_default w ↦ (
         omega (arith, c.loop-gate.invariant.0),
-        w.start-is ∙ start_rest N items k start meant in-items c.loop-gate.invariant.1 w.in-default.not-Look,
+        w.start-is ∙ start_rest N items k start meant in-items c.loop-gate.invariant.1 w.in_default.not-Look,
         λ j h. ap (λ xs. at xs j) w.block-is ∙ c.loop-gate.invariant.2 j (omega (arith, w.start-is)),
       )
     ]

@@ -13,12 +13,12 @@ returns g c =
     let N = net c.args.circuit.now in
     let tape = c.args.tape.now in
     let ms = c.args.masks.now in
-    let i = c.input-count-inputs.result in
-    let l = c.look-count.result in
-    let first : i ≡ inputs N = c.input-count-inputs.ensures.is in
-    let count : (i + l) - i ≡ look_total N = omega (arith, c.look-count.ensures.is) in
+    let i = c.input_count-inputs.result in
+    let l = c.look_count.result in
+    let first : i ≡ inputs N = c.input_count-inputs.ensures.is in
+    let count : (i + l) - i ≡ look_total N = omega (arith, c.look_count.ensures.is) in
     let whole : i - 0 ≡ inputs N = omega arith in
-    let given = c.copy-from-slice.ensures.after ∙ ap (λ n. take n tape) whole in
+    let given = c.copy_from_slice.ensures.after ∙ ap (λ n. take n tape) whole in
     let long = length-take-le (inputs N) tape (omega (arith, c.requires.tape)) in
-    let front = take_at c.copy-from-slice.new.self (post_of 0 (i - 0) ms) (inputs N) (ap length given ∙ long) ∙ given in
-    c.mask-gates.ensures ∙ ap₂ (λ ls ins. flow G N (masking ls) ins) (ap₂ (λ n s. take n (drop s tape)) count first) front ∙ sym (masks_dealt G N tape)
+    let front = take_at c.copy_from_slice.new.self (post_of 0 (i - 0) ms) (inputs N) (ap length given ∙ long) ∙ given in
+    c.mask_gates.ensures ∙ ap₂ (λ ls ins. flow G N (masking ls) ins) (ap₂ (λ n s. take n (drop s tape)) count first) front ∙ sym (masks_dealt G N tape)

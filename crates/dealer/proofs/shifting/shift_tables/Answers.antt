@@ -13,7 +13,7 @@ use Rattle.dealer.proofs.Places.{Written}
 use Rattle.dealer.proofs.Tables.{look_gate, cells_room, cells_few, start_look, start_rest, start_all}
 use Rattle.dealer.proofs.Shifts.{tables_shifted}
 use Rattle.dealer.proofs.shifting.shift_tables.Goals as goal
-use Rattle.dealer.proofs.shifting.shift_tables.Goals.{in-Look, in-default}
+use Rattle.dealer.proofs.shifting.shift_tables.Goals.{in-Look, in_default}
 
 pub overflow-add-cells : goal.overflow-add-cells
 overflow-add-cells g c =
@@ -36,8 +36,8 @@ slice-bounds-cells-end g c =
     let room = cells_room (g.G.MaskGroup.means c.args.group.now) (net circuit) ms k (get_or items k no_gate) so in
     omega (arith, c.loop-gate.invariant.1, c.size-size.ensures.is, c.requires.room)
 
-pub shift-table-requires : goal.shift-table-requires
-shift-table-requires g c =
+pub shift_table-requires : goal.shift_table-requires
+shift_table-requires g c =
     let circuit = c.args.circuit.now in
     let ms = c.args.masks.now in
     let k = c.loop-gate.gate-index in
@@ -94,7 +94,7 @@ loop-gate-preserved g c =
           let room = cells_room G N ms k gate so in
           let within : start ≤ length block = omega (arith, c.loop-gate.invariant.1, c.requires.room) in
           let rest = post_of start n block in
-          let new = w.shift-table.ensures ∙ ap (λ x. each N.size (λ j. G.add (at (take n (drop start block)) j) (sub G (cell G N (moved_masks G ms ds) (record { wire = x; operand = gate.first; table = gate.second }) j) (cell G N ms (record { wire = x; operand = gate.first; table = gate.second }) j)))) c.loop-gate.invariant.0 in
+          let new = w.shift_table.ensures ∙ ap (λ x. each N.size (λ j. G.add (at (take n (drop start block)) j) (sub G (cell G N (moved_masks G ms ds) (record { wire = x; operand = gate.first; table = gate.second }) j) (cell G N ms (record { wire = x; operand = gate.first; table = gate.second }) j)))) c.loop-gate.invariant.0 in
           let is = w.block-is ∙ ap (λ ys. take start block ++ (ys ++ rest)) new in
           let more = tables_shifted G ms ds N k gate so was block rest start n c.loop-gate.invariant.1 (omega arith) within (λ i. get_or-drop n (drop start block) i 0 ∙ get_or-drop start block (n + i) 0) c.loop-gate.invariant.2 in (
             omega (arith, c.loop-gate.invariant.0),
@@ -104,9 +104,9 @@ loop-gate-preserved g c =
               left = λ j h. ap (λ xs. at xs j) is ∙ more.left j (omega (arith, w.start-is, same));
             },
           )
-      | in-default w ↦ (
+      | in_default w ↦ (
         omega (arith, c.loop-gate.invariant.0),
-        w.start-is ∙ start_rest N items k start meant in-items c.loop-gate.invariant.1 w.in-default.not-Look,
+        w.start-is ∙ start_rest N items k start meant in-items c.loop-gate.invariant.1 w.in_default.not-Look,
         record {
           done = λ j h. ap (λ xs. at xs j) w.block-is ∙ c.loop-gate.invariant.2.done j (omega (arith, w.start-is));
           left = λ j h. ap (λ xs. at xs j) w.block-is ∙ c.loop-gate.invariant.2.left j (omega (arith, w.start-is));

@@ -13,13 +13,13 @@ loop-left-preserved c =
     let l = c.loop-left.looks in
     let g = gate_of c.in-Some.gate in
     let long : 5 ≤ length left = search rules in
-    let passes : gate_fault h o w l g ≡ None = c.in-ok-test.ensures.0 in
-    let counted = c.look-mark-looks.ensures in
+    let passes : gate_fault h o w l g ≡ None = c.in_ok-test.ensures.0 in
+    let counted = c.look_mark-looks.ensures in
     let front = c.in-Some.ensures in
     let room = look_room h o w l g passes c.loop-left.invariant.2 in (
       search rules,
       search rules,
       omega (arith, room, counted),
-      turn_fault h o w l g passes left c.look-mark-looks.result long front counted ∙ c.loop-left.invariant.3,
-      turn_count h o w l g passes left c.look-mark-looks.result long front counted ∙ c.loop-left.invariant.4,
+      turn_fault h o w l g passes left c.look_mark-looks.result long front counted ∙ c.loop-left.invariant.3,
+      turn_count h o w l g passes left c.look_mark-looks.result long front counted ∙ c.loop-left.invariant.4,
     )

@@ -27,7 +27,7 @@ pub loop-left-preserved : goal.loop-left-preserved
 loop-left-preserved c =
     let left = c.loop-left.left.now in
     let five : 5 ≤ length left = search rules in
-    let front = ap known (entries_front left None five c.in-default-of-kind.ensures) in
+    let front = ap known (entries_front left None five c.in_default-of_kind.ensures) in
     let At : List net.Gate → Type 0 =
     Filling gate_of (known (gate_entries c.args.bytes.now)) c.new-list.result.places.now c.loop-left.list.places.now c.loop-left.list.len in
     (subst At front c.loop-left.invariant.0, search rules, search rules)

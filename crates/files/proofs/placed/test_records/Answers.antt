@@ -20,8 +20,8 @@ loop-gate-preserved c =
     let g = gate_of (get_or gs i no_gate) in
     let rest = map Some (gates_of (drop (i + 1) gs)) in
     let more : i < length gs = c.loop-gate-test.true in
-    let passes : gate_fault h o w l g ≡ None = c.in-ok-test.ensures.0 in
-    let counted = c.look-mark-looks.ensures in
+    let passes : gate_fault h o w l g ≡ None = c.in_ok-test.ensures.0 in
+    let counted = c.look_mark-looks.ensures in
     let room = look_room h o w l g passes c.loop-gate.invariant.2 in
     let looks : look_count (gates_of (drop i gs)) ≡ mark (is_look g) + look_count (gates_of (drop (i + 1) gs)) =
     at_drop_more (λ xs. look_count (gates_of xs)) gs i no_gate more in (
@@ -34,8 +34,8 @@ loop-gate-preserved c =
       omega (arith, looks, counted, c.loop-gate.invariant.4),
     )
 
-pub returns-in-err-test : goal.returns-in-err-test
-returns-in-err-test c =
+pub returns-in_err-test : goal.returns-in_err-test
+returns-in_err-test c =
     let gs = c.args.gates.now in
     let i = c.loop-gate.gate-index in
     let h = c.args.header.now in
@@ -43,12 +43,12 @@ returns-in-err-test c =
     let w = c.loop-gate.wire in
     let l = c.loop-gate.looks in
     let g = gate_of (get_or gs i no_gate) in
-    let p = err_from_is_err_and c.from-residual.result c.from-residual.ensures.1 in
+    let p = err_from_is_err_and c.from_residual.result c.from_residual.ensures.1 in
     let rest = map Some (gates_of (drop (i + 1) gs)) in
     let more : i < length gs = c.loop-gate-test.true in
     rw (p.1, p.2)
     (sym c.loop-gate.invariant.3 ∙ ap (gates_fault h o w l) (at_drop_more (λ xs. map Some (gates_of xs)) gs i no_gate more)
-    ∙ refuses (gate_fault h o w l g) (gates_fault h (o + 5) (w + 1) (l + mark (is_look g)) rest) c.in-err-test.ensures)
+    ∙ refuses (gate_fault h o w l g) (gates_fault h (o + 5) (w + 1) (l + mark (is_look g)) rest) c.in_err-test.ensures)
 
 pub returns : goal.returns
 returns c =

@@ -12,44 +12,44 @@ use Rattle.files.proofs.reading.survey.Goals as goal
 pub returns-then-file-lt54 : goal.returns-then-file-lt54
 returns-then-file-lt54 c =
     let n = length c.args.file.now in
-    length_refuses c.args.file.now c.args.gate-places c.args.output-places (ap (λ b. unless b (Layout n)) (lt-leb 54 n c.if-file-lt54.true))
+    length_refuses c.args.file.now c.args.gate_places c.args.output_places (ap (λ b. unless b (Layout n)) (lt-leb 54 n c.if-file-lt54.true))
 
-pub returns-in-err-header : goal.returns-in-err-header
-returns-in-err-header c =
-    let p = err_from_is_err_and c.from-residual.result c.from-residual.ensures.1 in
+pub returns-in_err-header : goal.returns-in_err-header
+returns-in_err-header c =
+    let p = err_from_is_err_and c.from_residual.result c.from_residual.ensures.1 in
     rw (p.1, p.2)
-    (counts_refuse c.args.file.now c.args.gate-places c.args.output-places c.if-file-lt54.false c.in-err-header.ensures)
+    (counts_refuse c.args.file.now c.args.gate_places c.args.output_places c.if-file-lt54.false c.in_err-header.ensures)
 
-pub returns-in-err-directory : goal.returns-in-err-directory
-returns-in-err-directory c =
-    let p = err_from_is_err_and c.from-residual-in-err-directory.result c.from-residual-in-err-directory.ensures.1 in
+pub returns-in_err-directory : goal.returns-in_err-directory
+returns-in_err-directory c =
+    let p = err_from_is_err_and c.from_residual-in_err-directory.result c.from_residual-in_err-directory.ensures.1 in
     rw (p.1, p.2)
-    (pairs_refuse c.args.file.now c.args.gate-places c.args.output-places c.if-file-lt54.false c.in-ok-header.ensures.0
-    c.in-err-directory.ensures)
+    (pairs_refuse c.args.file.now c.args.gate_places c.args.output_places c.if-file-lt54.false c.in_ok-header.ensures.0
+    c.in_err-directory.ensures)
 
-pub returns-in-err-test-places : goal.returns-in-err-test-places
-returns-in-err-test-places c =
-    let p = err_from_is_err_and c.from-residual-in-err-test-places.result c.from-residual-in-err-test-places.ensures.1 in
-    let header = c.in-ok-header.ensures in
-    let At : Header → Type 0 = λ h. places_fault h c.args.gate-places c.args.output-places ≡ Some c.in-err-test-places.field-0.0 in
+pub returns-in_err-test_places : goal.returns-in_err-test_places
+returns-in_err-test_places c =
+    let p = err_from_is_err_and c.from_residual-in_err-test_places.result c.from_residual-in_err-test_places.ensures.1 in
+    let header = c.in_ok-header.ensures in
+    let At : Header → Type 0 = λ h. places_fault h c.args.gate_places c.args.output_places ≡ Some c.in_err-test_places.field-0.0 in
     rw (p.1, p.2)
-    (places_refuse c.args.file.now c.args.gate-places c.args.output-places c.if-file-lt54.false header.0
-    c.in-ok-directory.ensures.0 (subst At header.1 c.in-err-test-places.ensures))
+    (places_refuse c.args.file.now c.args.gate_places c.args.output_places c.if-file-lt54.false header.0
+    c.in_ok-directory.ensures.0 (subst At header.1 c.in_err-test_places.ensures))
 
-pub returns-in-err-looks : goal.returns-in-err-looks
-returns-in-err-looks c =
-    let p = err_from_is_err_and c.from-residual-in-err-looks.result c.from-residual-in-err-looks.ensures.1 in
-    let header = c.in-ok-header.ensures in
-    let fit : Header → Type 0 = λ h. places_fault h c.args.gate-places c.args.output-places ≡ None in
+pub returns-in_err-looks : goal.returns-in_err-looks
+returns-in_err-looks c =
+    let p = err_from_is_err_and c.from_residual-in_err-looks.result c.from_residual-in_err-looks.ensures.1 in
+    let header = c.in_ok-header.ensures in
+    let fit : Header → Type 0 = λ h. places_fault h c.args.gate_places c.args.output_places ≡ None in
     rw (p.1, p.2)
-    (sections_decide c.args.file.now c.args.gate-places c.args.output-places c.if-file-lt54.false header.0
-    c.in-ok-directory.ensures.0 (subst fit header.1 c.in-ok-test-places.ensures.0) c.in-err-looks.ensures.tests)
+    (sections_decide c.args.file.now c.args.gate_places c.args.output_places c.if-file-lt54.false header.0
+    c.in_ok-directory.ensures.0 (subst fit header.1 c.in_ok-test_places.ensures.0) c.in_err-looks.ensures.tests)
 
 pub returns : goal.returns
 returns c =
-    let header = c.in-ok-header.ensures in
-    let fit : Header → Type 0 = λ h. places_fault h c.args.gate-places c.args.output-places ≡ None in (
-      sections_decide c.args.file.now c.args.gate-places c.args.output-places c.if-file-lt54.false header.0
-          c.in-ok-directory.ensures.0 (subst fit header.1 c.in-ok-test-places.ensures.0) c.in-ok-looks.ensures.tests.0,
+    let header = c.in_ok-header.ensures in
+    let fit : Header → Type 0 = λ h. places_fault h c.args.gate_places c.args.output_places ≡ None in (
+      sections_decide c.args.file.now c.args.gate_places c.args.output_places c.if-file-lt54.false header.0
+          c.in_ok-directory.ensures.0 (subst fit header.1 c.in_ok-test_places.ensures.0) c.in_ok-looks.ensures.tests.0,
       search rules,
     )

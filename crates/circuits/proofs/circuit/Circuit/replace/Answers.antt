@@ -12,19 +12,19 @@ invariant-of-self c =
     let f = c.args.file.now in
     let gs = c.args.gates.now in
     let os = c.args.outputs.now in
-    let t = c.in-ok-found.ensures in
-    let h = c.in-ok-found.found.header in
+    let t = c.in_ok-found.ensures in
+    let h = c.in_ok-found.found.header in
     let counts : h ≡ header_of f = t.1.0.header in
-    let pairs : c.in-ok-found.found.directory ≡ directory_of f = t.1.0.directory in
+    let pairs : c.in_ok-found.found.directory ≡ directory_of f = t.1.0.directory in
     let GatesPass : Header → ℕ → Type 0 = λ x o. gates_fault x o x.inputs 0 (map Some (gates_of (take x.gates gs))) ≡ None in
     let OutputsPass : Header → ℕ → Type 0 = λ x o. outputs_fault x o (take x.outputs os) ≡ None in
-    let gates = subst (λ (x : Header). GatesPass x (offset f gates_at)) counts (subst (GatesPass h) (ap (λ d. d.gates.0) pairs) c.in-ok-looks.ensures.0) in
-    let outputs = subst (λ (x : Header). OutputsPass x (offset f outputs_at)) counts (subst (OutputsPass h) (ap (λ d. d.outputs.0) pairs) c.in-ok-test-outputs.ensures.0) in
+    let gates = subst (λ (x : Header). GatesPass x (offset f gates_at)) counts (subst (GatesPass h) (ap (λ d. d.gates.0) pairs) c.in_ok-looks.ensures.0) in
+    let outputs = subst (λ (x : Header). OutputsPass x (offset f outputs_at)) counts (subst (OutputsPass h) (ap (λ d. d.outputs.0) pairs) c.in_ok-test_outputs.ensures.0) in
     let v = kept f gs os t.0 t.1.1 t.1.2 gates outputs in
     let same =
-    same_net f gs os h c.in-ok-found.found.directory _ _ _ _ _ counts pairs c.section-of.ensures c.section-of-2.ensures c.section-of-3.ensures
+    same_net f gs os h c.in_ok-found.found.directory _ _ _ _ _ counts pairs c.section_of.ensures c.section_of-2.ensures c.section_of-3.ensures
     c.front.ensures.0 c.front-2.ensures.0 in
-    let looked = c.in-ok-looks.ensures.1 ∙ ap (λ xs. look_count (gates_of xs)) (sym c.front.ensures.0) in (
+    let looked = c.in_ok-looks.ensures.1 ∙ ap (λ xs. look_count (gates_of xs)) (sym c.front.ensures.0) in (
       subst Sized same v.sized,
       (subst Counted same v.counted, (subst Whole same v.whole, (subst Coded same v.coded, (subst Named same v.named, (subst Wired same v.wired, (subst Few same v.few, (looked, tt))))))),
     )

@@ -11,8 +11,8 @@ returns c =
     let h = c.args.header.now in
     let file = c.args.file.now in
     let bytes = c.rest-bytes.ensures ∙ section_bytes file c.args.pair.0 c.args.pair.1 _ _ c.narrow-held.ensures.start c.narrow-held.ensures.ends in
-    let At : ℕ → List ℕ → Type 0 = λ o xs. Tested (gates_fault h o h.inputs 0 (gate_entries xs)) c.test-gates.result (λ n. n ≡ look_count (known (gate_entries xs))) in
+    let At : ℕ → List ℕ → Type 0 = λ o xs. Tested (gates_fault h o h.inputs 0 (gate_entries xs)) c.test_gates.result (λ n. n ≡ look_count (known (gate_entries xs))) in
     record {
-      tests = subst (At c.args.pair.0) bytes (subst (λ (o : ℕ). At o c.rest-bytes.result.now) c.narrow-held.ensures.start c.test-gates.ensures);
+      tests = subst (At c.args.pair.0) bytes (subst (λ (o : ℕ). At o c.rest-bytes.result.now) c.narrow-held.ensures.start c.test_gates.ensures);
       end = search rules;
     }
