@@ -11,7 +11,7 @@ pub mod Busy
 pub mod Side
 pub mod Whole
 pub mod Family
-pub mod Hidden
+pub mod Unseen
 pub mod Summary
 pub mod Sent
 pub mod Plays

@@ -11,7 +11,7 @@ use Rattle.model.proofs.Tapes.{one_to_one}
 use Rattle.model.specs.Shelf.{Desk, installed, shelf_verdict, serve}
 use Rattle.secrecy.specs.Script.{Step, dealt, rejected, enters, common, Item, At, to, first_call, top_part, left, firsts, seconds, swap_item, runs, logs, shifted, Every, Private, Goes, GoesAll, Scripted, AllSame, Agree}
 use Rattle.secrecy.specs.Secrecy.{Hidden, matched, Matched, bytes_of, stocks, Secrecy}
-use Rattle.secrecy.proofs.Hidden.{hidden, sized_or_none}
+use Rattle.secrecy.proofs.Unseen.{hidden, sized_or_none}
 use Rattle.secrecy.proofs.Family.{length_shifted}
 
 -- TAPES
