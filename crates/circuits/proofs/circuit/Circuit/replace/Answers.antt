@@ -7,8 +7,8 @@ use Rattle.files.specs.Faults.{gates_fault, outputs_fault}
 use Rattle.circuits.proofs.Kept.{kept, same_net}
 use Rattle.circuits.proofs.circuit.Circuit.replace.Goals as goal
 
-pub invariant-of-self : goal.invariant-of-self
-invariant-of-self c =
+pub invariant_of-self : goal.invariant_of-self
+invariant_of-self c =
     let f = c.args.file.now in
     let gs = c.args.gates.now in
     let os = c.args.outputs.now in
@@ -24,7 +24,13 @@ invariant-of-self c =
     let same =
     same_net f gs os h c.in_ok-found.found.directory _ _ _ _ _ counts pairs c.section_of.ensures c.section_of-2.ensures c.section_of-3.ensures
     c.front.ensures.0 c.front-2.ensures.0 in
-    let looked = c.in_ok-looks.ensures.1 ∙ ap (λ xs. look_count (gates_of xs)) (sym c.front.ensures.0) in (
-      subst Sized same v.sized,
-      (subst Counted same v.counted, (subst Whole same v.whole, (subst Coded same v.coded, (subst Named same v.named, (subst Wired same v.wired, (subst Few same v.few, (looked, tt))))))),
-    )
+    record {
+      sized = subst Sized same v.sized;
+      counted = subst Counted same v.counted;
+      whole = subst Whole same v.whole;
+      coded = subst Coded same v.coded;
+      named = subst Named same v.named;
+      wired = subst Wired same v.wired;
+      few = subst Few same v.few;
+      looked = c.in_ok-looks.ensures.1 ∙ ap (λ xs. look_count (gates_of xs)) (sym c.front.ensures.0);
+    }
