@@ -52,8 +52,8 @@ loop-gate-preserved g c =
       grow_more G N items ws n k (flow G N (clearly G N) (take (inputs N) c.args.wires.now)) c.loop-gate.invariant.3 v c.loop-gate-test.true room value,
     )
 
-pub shape-of-wires : goal.shape-of-wires
-shape-of-wires g c =
+pub shape_of-wires : goal.shape_of-wires
+shape_of-wires g c =
     let count = sym (length-map c.gates-gate-items.result.now gate_of) ∙ ap length c.gates-gate-items.ensures.meant in
     omega (arith, c.requires.places, count)
 

@@ -61,7 +61,7 @@ returns g c =
     grow_all (g.G.MaskGroup.means c.args.group.now) (net c.args.circuit.now) (masking c.args.looks.now) c.gates-gate-items.result.now c.loop-gate.masks
     c.loop-gate.wire c.loop-gate.gate-index c.loop-gate.ordinal _ c.loop-gate.invariant.3 c.loop-gate-test.false (omega arith)
 
-pub shape-of-masks : goal.shape-of-masks
-shape-of-masks g c =
+pub shape_of-masks : goal.shape_of-masks
+shape_of-masks g c =
     let count = sym (length-map c.gates-gate-items.result.now gate_of) ∙ ap length c.gates-gate-items.ensures.meant in
     omega (arith, c.requires.places, count)

@@ -10,8 +10,8 @@ use Rattle.dealer.proofs.Tables.{look_gate, cells_room, cells_few, start_look, s
 use Rattle.dealer.proofs.owed.mask_tables.Goals as goal
 use Rattle.dealer.proofs.owed.mask_tables.Goals.{in-Look, in_default}
 
-pub overflow-add-masked : goal.overflow-add-masked
-overflow-add-masked g c =
+pub overflow_add-masked : goal.overflow_add-masked
+overflow_add-masked g c =
     let circuit = c.args.circuit.now in
     let ms = c.args.masks.now in
     let k = c.loop-gate.gate-index in
@@ -21,8 +21,8 @@ overflow-add-masked g c =
     let few = cells_few (net circuit) circuit.sized circuit.few in
     omega (arith, c.loop-gate.invariant.1, c.size-size.ensures.is)
 
-pub slice-bounds-masked-end : goal.slice-bounds-masked-end
-slice-bounds-masked-end g c =
+pub slice_bounds-masked-end : goal.slice_bounds-masked-end
+slice_bounds-masked-end g c =
     let circuit = c.args.circuit.now in
     let ms = c.args.masks.now in
     let k = c.loop-gate.gate-index in
@@ -52,8 +52,8 @@ mask_table-requires g c =
       places = length-between block start (start + size) fits ∙ omega (arith, c.size-size.ensures.is);
     }
 
-pub overflow-add-start : goal.overflow-add-start
-overflow-add-start g c =
+pub overflow_add-start : goal.overflow_add-start
+overflow_add-start g c =
     let circuit = c.args.circuit.now in
     let ms = c.args.masks.now in
     let k = c.loop-gate.gate-index in

@@ -28,14 +28,14 @@ loop-i-preserved c =
           let room : c.loop-i.slot < length c.loop-i.part = omega (arith, c.requires.room) in (
             omega (arith, w.slot-is),
             omega (arith, w.slot-is),
-            ap₂ (λ n xs. take n xs ++ left) w.slot-is w.part_is ∙ copied_yes h os ms i in-os in-ms c.loop-i.part all c.loop-i.slot room own c.loop-i.invariant.2,
+            ap₂ (λ n xs. take n xs ++ left) w.slot-is w.part-is ∙ copied_yes h os ms i in-os in-ms c.loop-i.part all c.loop-i.slot room own c.loop-i.invariant.2,
           )
       | else-owner-party w ↦
           let other = w.if-owner-party.false in
           let more = owned_no h os i in-os other in (
             omega (arith, w.slot-is),
             omega (arith, w.slot-is),
-            ap₂ (λ n xs. take n xs ++ left) w.slot-is w.part_is ∙ copied_no h os ms i in-os in-ms c.loop-i.part all c.loop-i.slot other c.loop-i.invariant.2,
+            ap₂ (λ n xs. take n xs ++ left) w.slot-is w.part-is ∙ copied_no h os ms i in-os in-ms c.loop-i.part all c.loop-i.slot other c.loop-i.invariant.2,
           )
     ]
 

@@ -15,8 +15,8 @@ use Rattle.dealer.proofs.Shifts.{tables_shifted}
 use Rattle.dealer.proofs.shifting.shift_tables.Goals as goal
 use Rattle.dealer.proofs.shifting.shift_tables.Goals.{in-Look, in_default}
 
-pub overflow-add-cells : goal.overflow-add-cells
-overflow-add-cells g c =
+pub overflow_add-cells : goal.overflow_add-cells
+overflow_add-cells g c =
     let circuit = c.args.circuit.now in
     let ms = c.args.masks.now in
     let k = c.loop-gate.gate-index in
@@ -26,8 +26,8 @@ overflow-add-cells g c =
     let few = cells_few (net circuit) circuit.sized circuit.few in
     omega (arith, c.loop-gate.invariant.1, c.size-size.ensures.is)
 
-pub slice-bounds-cells-end : goal.slice-bounds-cells-end
-slice-bounds-cells-end g c =
+pub slice_bounds-cells-end : goal.slice_bounds-cells-end
+slice_bounds-cells-end g c =
     let circuit = c.args.circuit.now in
     let ms = c.args.masks.now in
     let k = c.loop-gate.gate-index in
@@ -59,8 +59,8 @@ shift_table-requires g c =
       places = length-between block start (start + size) fits ∙ omega (arith, c.size-size.ensures.is);
     }
 
-pub overflow-add-start : goal.overflow-add-start
-overflow-add-start g c =
+pub overflow_add-start : goal.overflow_add-start
+overflow_add-start g c =
     let circuit = c.args.circuit.now in
     let ms = c.args.masks.now in
     let k = c.loop-gate.gate-index in
