@@ -144,8 +144,10 @@ fn places(rt: HostRuntime) -> Result<(), Fail> {
         return Err(Fail::new("a good file"));
     };
     assert!(rt; contents.looks == 1 && contents.header.size == 10 && contents.header.gates == 4);
-    assert!(rt; contents.owners == &[0, 1] && contents.rows == &[9, 8, 7, 6, 5, 4, 3, 2]);
-    assert!(rt; contents.tables == &[0, 1, 4, 9, 6, 5, 6, 9, 4, 1]);
+    assert!(rt;
+        contents.owners == [0, 1].as_slice() && contents.rows == [9, 8, 7, 6, 5, 4, 3, 2].as_slice()
+    );
+    assert!(rt; contents.tables == [0, 1, 4, 9, 6, 5, 6, 9, 4, 1].as_slice());
     let look = Gate {
         kind: Kind::Look,
         first: 4,
