@@ -5,15 +5,15 @@ use Rattle.std.proofs.lemmas.List.{length-map, length-take-le}
 use Rattle.std.proofs.lemmas.Bool.{ltb-true, leb-true, and_parts}
 use Rattle.refusals.specs.declared.Refusal.{Refusal}
 use Rattle.refusals.specs.declared.Refusal.TheVariants.{Limit, Places, Operand, Code, Absent}
-use Rattle.refusals.specs.Tests.{unless, found, before, first}
-use Rattle.model.specs.Words.{at, Below, mark}
-use Rattle.model.specs.Net.{Net, Gate, adds, is_look, look_count, first_of, second_of, limit, table_count, row_count, Valid}
+use Rattle.refusals.specs.Tests.{unless, found, before}
+use Rattle.model.specs.Words.{Below, mark}
+use Rattle.model.specs.Net.{Gate, adds, is_look, look_count, first_of, second_of, limit, Valid}
 use Rattle.files.specs.declared.gate.Gate as gate
 use Rattle.files.specs.declared.header.Header.{Header}
 use Rattle.files.specs.declared.directory.Directory.{Directory}
 use Rattle.files.specs.Gates.{gates_of}
 use Rattle.files.specs.Format.{two, header_of, directory_of, owners_at, tables_at, rows_at, gates_at, outputs_at, offset, section, InFile, Lengths}
-use Rattle.files.specs.Faults.{count_fault, places_fault, beyond, gate_fault, gates_fault, outputs_fault, second_refusal, fault}
+use Rattle.files.specs.Faults.{count_fault, beyond, gate_fault, gates_fault, outputs_fault, second_refusal, fault}
 use Rattle.files.proofs.Passed.{both_pass, passed, section_length}
 use Rattle.files.proofs.Left.{look_room}
 use Rattle.circuits.specs.Nets.{net_of}

@@ -1,8 +1,8 @@
 -- Gates as records, one after another.
-use Rattle.std.proofs.Common.{◌≡◌, ℕ, ◌+◌, ◌*◌, ◌<◌, ◌≤◌, List, [], ◌∷◌, ◌++◌, length, get_or, take, drop, set, sym, refl, ap, ◌∙◌, subst, ap₂, arith}
+use Rattle.std.proofs.Common.{◌≡◌, ℕ, ◌+◌, ◌<◌, ◌≤◌, List, [], ◌∷◌, ◌++◌, length, get_or, take, drop, set, sym, ap, ◌∙◌, subst, ap₂, arith}
 use Rattle.std.proofs.lemmas.List.{get_or-map, length-map, length-take-le, take_all, take_more_set, at_drop_more, at_drop_all}
 use Rattle.groups.specs.Group.{Group}
-use Rattle.model.specs.Words.{at, mark}
+use Rattle.model.specs.Words.{mark}
 use Rattle.model.specs.Net.{Net, adds, Rules, Wired, inputs, is_look, look_count, row_count, table_count, gate_at, first_of, second_of, limit, step, grow}
 use Rattle.files.specs.declared.gate.Gate as of
 use Rattle.files.specs.Gates.{gate_of, gates_of, no_gate}

@@ -3,7 +3,7 @@ use Rattle.std.proofs.Common.{◌≡◌, ℕ, ◌≤◌, List, length, Some, Non
 use Rattle.std.proofs.lemmas.Bool.{le-leb}
 use Rattle.refusals.specs.declared.Refusal.{Refusal}
 use Rattle.refusals.specs.declared.Refusal.TheVariants.{Layout}
-use Rattle.refusals.specs.Tests.{unless, before, first}
+use Rattle.refusals.specs.Tests.{unless, before}
 use Rattle.files.specs.Format.{header_of}
 use Rattle.files.specs.Faults.{length_fault, counts_fault, pairs_fault, places_fault, sections_fault, fault}
 

@@ -1,12 +1,12 @@
 -- What is known of a file that passed all tests.
-use Rattle.std.proofs.Common.{◌≡◌, ℕ, zero, suc, ◌+◌, ◌*◌, ◌≤◌, List, [], ◌∷◌, length, take, drop, Some, None, Option, refl, ap, ◌∙◌, arith, length-drop, length-take}
+use Rattle.std.proofs.Common.{◌≡◌, ℕ, zero, suc, ◌+◌, ◌*◌, ◌≤◌, List, [], ◌∷◌, length, drop, Some, None, Option, refl, ap, ◌∙◌, arith, length-drop}
 use Rattle.std.proofs.lemmas.List.{length-take-le}
 use Rattle.refusals.specs.declared.Refusal.{Refusal}
 use Rattle.model.specs.Words.{mark}
 use Rattle.model.specs.Net.{Gate, is_look}
 use Rattle.files.specs.declared.header.Header.{Header}
 use Rattle.refusals.specs.Tests.{before}
-use Rattle.files.specs.Format.{header_of, owners_at, tables_at, rows_at, gates_at, outputs_at, offset, len, end_of, section, gate_entries, known, numbers, net_in, InFile, Lengths}
+use Rattle.files.specs.Format.{header_of, tables_at, rows_at, gates_at, outputs_at, offset, len, end_of, section, gate_entries, known, numbers, net_in, InFile, Lengths}
 use Rattle.files.specs.Faults.{counts_fault, pairs_fault, places_fault, owners_fault, codes_fault, gate_fault, gates_fault, outputs_fault, sections_fault, length_fault, fault}
 
 -- where two tests pass, each does

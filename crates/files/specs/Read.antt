@@ -1,11 +1,11 @@
 -- What READ answers and what it leaves in the places.
-use Rattle.std.specs.Prelude.{◌≡◌, ℕ, ◌*◌, List, take, drop}
+use Rattle.std.specs.Prelude.{◌≡◌, ℕ, List, take, drop}
 use Rattle.model.specs.Net.{look_count}
 use Rattle.files.specs.declared.gate.Gate.{Gate}
 use Rattle.files.specs.declared.contents.Survey.{Survey}
 use Rattle.files.specs.declared.contents.Contents.{Contents}
 use Rattle.files.specs.Gates.{gates_of}
-use Rattle.files.specs.Format.{header_of, directory_of, owners_at, tables_at, rows_at, gates_at, outputs_at, len, section, net_in, InFile}
+use Rattle.files.specs.Format.{header_of, directory_of, net_in}
 
 -- the numbers of a file that passed
 pub record Surveyed (f : List ℕ) (s : Survey) : Type 0 where

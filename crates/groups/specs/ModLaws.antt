@@ -1,5 +1,5 @@
 -- Addition modulo q meets the laws.
-use Rattle.std.specs.Prelude.{◌≡◌, ℕ, ◌+◌, ◌-◌, ◌*◌, ◌/◌, ◌%◌, ◌<◌, ◌≤◌, List, slice_index}
+use Rattle.std.specs.Prelude.{◌≡◌, ℕ, ◌+◌, ◌-◌, ◌*◌, ◌/◌, ◌%◌, ◌<◌, ◌≤◌, slice_index}
 use Rattle.std.proofs.Common.{sym, ap, ◌∙◌, add_comm, add_assoc, add-zero, mul-add, mul_assoc, mod-lt, mod-eq_of_lt, add-sub_of_le, le_of_lt, arith}
 use Rattle.std.proofs.Math.Nat.{mod_self, mod-add-mod, add-mod-mod, add-mod, add-mul-mod_self_right, mod-add-div'}
 use Rattle.groups.specs.Group.{Laws}

@@ -1,5 +1,5 @@
 -- A file that READ accepts, and the circuit that CIRCUIT makes of it and of the places that READ filled.
-use Rattle.std.proofs.Common.{◌≡◌, ℕ, ◌+◌, ◌*◌, ◌≤◌, Bool, true, false, ◌&&◌, eqb, leb, List, [], ◌∷◌, map, length, take, Some, None, Option, sym, refl, ap, ◌∙◌, subst, ap₂, arith}
+use Rattle.std.proofs.Common.{◌≡◌, ℕ, ◌+◌, ◌*◌, ◌≤◌, ◌&&◌, eqb, leb, List, [], ◌∷◌, map, length, take, Some, None, Option, sym, refl, ap, ◌∙◌, subst, ap₂, arith}
 use Rattle.std.proofs.lemmas.Bool.{eqb-true, leb-true, and_parts}
 use Rattle.refusals.specs.declared.Refusal.{Refusal}
 use Rattle.refusals.specs.declared.Refusal.TheVariants.{Layout}
@@ -7,14 +7,13 @@ use Rattle.refusals.specs.Tests.{unless, before}
 use Rattle.model.specs.Words.{mark}
 use Rattle.model.specs.Net.{Net, Gate, is_look, Valid}
 use Rattle.files.specs.declared.header.Header.{Header}
-use Rattle.files.specs.declared.gate.Gate as gate
 use Rattle.files.specs.Gates.{gates_of}
-use Rattle.files.specs.Format.{header_of, owners_at, tables_at, rows_at, gates_at, outputs_at, offset, len, end_of, section, gate_entries, known, numbers, net_in, InFile, Lengths}
+use Rattle.files.specs.Format.{header_of, owners_at, tables_at, rows_at, gates_at, outputs_at, offset, len, end_of, section, gate_entries, known, net_in, InFile, Lengths}
 use Rattle.files.specs.Faults.{pair_fault, pairs_fault, gate_fault, gates_fault, outputs_fault, fault}
 use Rattle.files.proofs.Passed.{both_pass, passed}
-use Rattle.circuits.specs.Made.{circuit_fault, circuit_net}
+use Rattle.circuits.specs.Made.{circuit_net}
 use Rattle.circuits.proofs.Kept.{holds, kept}
-use Rattle.laws.specs.Laws.{Held, CircuitsHold}
+use Rattle.laws.specs.Laws.{CircuitsHold}
 
 -- gates that passed are all of known kinds
 all_known : (h : Header) (o w l : ℕ) (es : List (Option Gate)) → gates_fault h o w l es ≡ None → es ≡ map Some (known es)

@@ -5,7 +5,7 @@ use Rattle.std.proofs.lemmas.List.{length-set, length-take-le, length-drop, leng
 use Rattle.std.proofs.lemmas.Slice.{take-put_mid_below, drop-put_mid}
 use Rattle.std.proofs.lemmas.Bool.{cases_lt, cases_Bool, lt-ltb, le-leb, eqb-true}
 use Rattle.groups.specs.Group.{Group}
-use Rattle.model.specs.Net.{Net, inputs, wires}
+use Rattle.model.specs.Net.{Net, wires}
 use Rattle.model.specs.Deal.{part_length}
 use Rattle.model.specs.Host.{Call, stock, enter, takes, walk, hear, opens, close, drops, Reply, Control, Place, Test, or, failing, fits, ask, own, pass, turn, part_after, wires_after, lent, verdict, accept, refuse, act}
 use Rattle.groups.specs.Tested.{are_codes}

@@ -7,11 +7,11 @@ use Rattle.groups.specs.Kept.{codes_set, codes_append}
 use Rattle.groups.specs.Group.{Group, Laws, Codes, sub}
 use Rattle.groups.specs.Total.{total}
 use Rattle.model.specs.Words.{at, each}
-use Rattle.model.specs.Net.{Gate, looks, Net, Valid, inputs, gate_at, wires, first_of, ordinal}
+use Rattle.model.specs.Net.{Gate, looks, Net, Valid, inputs, gate_at, first_of, ordinal}
 use Rattle.model.specs.Deal.{Deal, Lawful, masks, cells, block, part}
 use Rattle.model.proofs.Listed.{at_each, length_each}
 use Rattle.model.proofs.Masks.{part_mask, part_own}
-use Rattle.model.specs.Host.{empty, walking, waiting, opened, Call, stock, enter, takes, walk, hear, opens, close, drops, Control, Place, Answer, number, share, Reply, Test, or, failing, ask, fits, asks, readable, own, steps, Stop, the_end, a_look, on_the_way, stop_at, operand_of, pass, share_at, cell_at, entered_at, heard_at, shares_of, filling, walk_to, turn, walk_answer, says, buffer_after, verdict, accept, refuse, act}
+use Rattle.model.specs.Host.{empty, walking, waiting, opened, Call, stock, enter, takes, walk, hear, opens, close, drops, Control, Place, Answer, number, share, Reply, Test, or, failing, ask, fits, asks, readable, steps, Stop, the_end, a_look, on_the_way, stop_at, operand_of, pass, share_at, cell_at, entered_at, heard_at, shares_of, filling, walk_to, turn, walk_answer, says, buffer_after, verdict, accept, refuse, act}
 use Rattle.groups.specs.Tested.{are_codes}
 use Rattle.secrecy.specs.Evaluation.{missing, entered, taken, Log, given_at, first, second, shift, Sane}
 use Rattle.secrecy.specs.Script.{Step, common, refusal, giving, note, log_from, Agreed}

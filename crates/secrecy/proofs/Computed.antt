@@ -5,12 +5,12 @@ use Rattle.std.proofs.lemmas.List.FromFn.{fill_by_all}
 use Rattle.groups.specs.Group.{Group, Laws, sub}
 use Rattle.model.specs.Words.{at, each, mark}
 use Rattle.model.specs.Net.{Net, Valid, inputs, wires}
-use Rattle.model.specs.Deal.{Deal, Lawful, masks, owed, owed_at, columns, block, owned, own_masks, part}
+use Rattle.model.specs.Deal.{Deal, Lawful, masks, owed_at, columns, block, owned, own_masks, part}
 use Rattle.model.specs.Shifted.{moved_masks, shifted_part}
-use Rattle.model.proofs.Listed.{at_each, length_each}
+use Rattle.model.proofs.Listed.{length_each}
 use Rattle.model.proofs.Wires.{flow_length}
 use Rattle.model.proofs.Masks.{masks_length, owed_at_lem, own_length, part_own}
-use Rattle.secrecy.specs.Evaluation.{Log, Sane, given_at, between, differing, difference, first, second, shift}
+use Rattle.secrecy.specs.Evaluation.{Log, Sane, given_at, between, differing, difference, shift}
 use Rattle.secrecy.specs.Computed.{ShiftComputed}
 use Rattle.secrecy.proofs.Difference.{difference_is}
 use Rattle.secrecy.proofs.Shift as sh

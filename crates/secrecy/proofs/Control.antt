@@ -8,7 +8,7 @@ use Rattle.model.specs.Net.{Gate, adds, shifts, maps, looks, Net, inputs, gate_a
 use Rattle.model.specs.Deal.{part}
 use Rattle.model.proofs.Counts.{tally_more}
 use Rattle.model.proofs.Coded.{are_codes_all, are_codes_each}
-use Rattle.model.specs.Host.{Phase, empty, gathering, walking, waiting, ended, opened, Call, stock, enter, takes, walk, hear, opens, close, drops, Control, number, lacking, Test, or, failing, rank, is, asks, stride, steps, the_end, a_look, on_the_way, stop_of, stop_at, ask, fits}
+use Rattle.model.specs.Host.{Phase, empty, gathering, walking, waiting, ended, opened, Call, stock, enter, takes, walk, hear, opens, close, drops, Control, lacking, Test, or, failing, rank, is, asks, stride, steps, the_end, a_look, on_the_way, stop_of, stop_at, ask, fits}
 use Rattle.groups.specs.Tested.{are_codes}
 use Rattle.secrecy.specs.Evaluation.{Given, missing, entered, taken, Log, given_at, Sane}
 use Rattle.secrecy.specs.Script.{refusal}

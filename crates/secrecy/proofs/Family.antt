@@ -3,10 +3,10 @@ use Rattle.std.proofs.Common.{◌≡◌, ℕ, zero, suc, ◌<◌, Bool, true, fa
 use Rattle.std.proofs.lemmas.List.{map-set}
 use Rattle.groups.specs.Group.{Group, Laws}
 use Rattle.model.specs.Words.{at}
-use Rattle.model.specs.Net.{Net, Valid, inputs, step}
+use Rattle.model.specs.Net.{Net, Valid, inputs}
 use Rattle.model.specs.Deal.{Deal, Lawful, part}
 use Rattle.model.proofs.Masks.{own_same}
-use Rattle.model.specs.Host.{opened, Call, stock, enter, takes, walk, hear, opens, close, drops, Control, stocked, own, turn}
+use Rattle.model.specs.Host.{Call, stock, enter, takes, walk, hear, opens, close, drops, Control, stocked, turn}
 use Rattle.secrecy.specs.Evaluation.{Given, missing, entered, taken, Log, shift, swapped, swap, Sane}
 use Rattle.secrecy.specs.Script.{Step, dealt, rejected, enters, common, Item, At, to, first_call, top_part, left, firsts, seconds, swap_step, swap_item, refusal, giving, note_common, note, ends, log_from, fresh, only, logs, shifted_by, Every, Private, AgreeBy, SameToOthers, AllSame}
 use Rattle.secrecy.proofs.Shift as sh

@@ -5,7 +5,6 @@ use Rattle.std.proofs.lemmas.List.{append_assoc, get_or-drop, take_all, get_or-s
 use Rattle.std.proofs.lemmas.Bool.{cases_eq, cases_lt, eqb-true, eq-eqb, ne_eqb, lt-ltb, le-ltb, and_from, not_from_false}
 use Rattle.std.proofs.lemmas.List.FromFn.{length-range_with_len}
 use Rattle.groups.specs.Kept.{codes_set, codes_zeros, codes_append, codes_none}
-use Rattle.groups.proofs.Totals.{sums}
 use Rattle.groups.specs.Group.{Group, Laws, Codes, sub}
 use Rattle.groups.specs.Total.{total}
 use Rattle.model.specs.Words.{at, each, tally}

@@ -17,7 +17,6 @@ use Rattle.model.proofs.Sums.{column_code, others_codes}
 use Rattle.model.proofs.Masks as mk
 use Rattle.model.proofs.Masks.{own_length}
 use Rattle.std.proofs.lemmas.List as ls
-use Rattle.model.specs.Host.{opened}
 use Rattle.secrecy.specs.Evaluation.{Given, missing, entered, taken, Log, given_at, first_value, error, looked, first, Fair, Sane}
 use Rattle.secrecy.specs.Honest.{other_parties, sends_share, masked_at, column_at}
 use Rattle.secrecy.proofs.Algebra as alg

@@ -3,11 +3,11 @@ use Rattle.std.proofs.Common.{◌≡◌, ℕ, zero, suc, ◌<◌, true, false, l
 use lib.Dec.{eqb-suc-zero}
 use Rattle.std.proofs.lemmas.Bool.{lt-ltb}
 use Rattle.groups.specs.Group.{Group, Laws, Codes}
-use Rattle.model.specs.Net.{Net, Valid, wires}
+use Rattle.model.specs.Net.{Net, Valid}
 use Rattle.model.specs.Deal.{Deal, Lawful, part}
 use Rattle.model.proofs.Masks.{part_codes}
-use Rattle.model.specs.Host.{gathering, Call, stock, enter, takes, walk, hear, opens, close, drops, Control, Place, Reply, blank, or, failing, is, mine_at, absent, own, turn, says, lent, buffer_after, accept}
-use Rattle.secrecy.specs.Evaluation.{Log, first, second, shift, Sane}
+use Rattle.model.specs.Host.{gathering, Call, stock, enter, takes, walk, hear, opens, close, drops, Control, Place, Reply, blank, or, failing, is, mine_at, absent, turn, says, lent, buffer_after, accept}
+use Rattle.secrecy.specs.Evaluation.{Log, shift, Sane}
 use Rattle.secrecy.specs.Script.{Step, dealt, rejected, enters, common, first_call, second_call, refusal, note, ends, log_from, Every, Other, Private, Agreed}
 use Rattle.secrecy.proofs.Shift as sh
 use Rattle.secrecy.proofs.Control.{Kept, Ext, ext_refl}

@@ -3,7 +3,7 @@ use Rattle.std.proofs.Common.{◌≡◌, ℕ, suc, ◌<◌, Bool, true, false, c
 use Rattle.std.proofs.lemmas.List.{length-map}
 use Rattle.std.proofs.lemmas.Bool.{cases_Bool, eqb-true, eqb-false}
 use Rattle.groups.specs.Group.{Group, Laws}
-use Rattle.model.specs.Net.{Net, Valid, step}
+use Rattle.model.specs.Net.{Net, Valid}
 use Rattle.model.specs.Deal.{Deal, Lawful, part}
 use Rattle.model.specs.Host.{Call, stock, enter, takes, walk, hear, opens, close, drops}
 use Rattle.model.specs.Tape.{Tape, deal_of, tape_of, OneToOne}

@@ -4,8 +4,7 @@ use lib.Dec.{eqb-suc-zero}
 use Rattle.std.proofs.lemmas.List.{length-replicate, get_or-replicate, length-map}
 use Rattle.std.proofs.lemmas.Bool.{cases_Bool, and_left, and_right, and_parts, eqb-true, leb-true}
 use Rattle.groups.specs.Group.{Group, Laws}
-use Rattle.model.specs.Words.{at}
-use Rattle.model.specs.Net.{Net, Valid, step}
+use Rattle.model.specs.Net.{Net, Valid}
 use Rattle.model.specs.Deal.{Deal, Lawful}
 use Rattle.model.specs.Host.{Call, stock, Control, refused, blank, Test, or, failing, Ask, STOCK, ask, fits, own, lent}
 use Rattle.model.specs.Shelf.{Desk, installed, nowhere, control_at, room_at, room_length, same_counts, at_look, frame, Served, accepted, refusing, serve}

@@ -5,8 +5,7 @@ use Rattle.std.proofs.lemmas.List.{length-set, length-replicate, get_or-replicat
 use Rattle.std.proofs.lemmas.Bool.{cases_eq, cases_lt, lt-ltb, le-ltb, eq-eqb, ne_eqb, and_from, and_right}
 use Rattle.groups.specs.Kept.{codes_zeros}
 use Rattle.groups.specs.Group.{Group, Laws}
-use Rattle.model.specs.Words.{at}
-use Rattle.model.specs.Net.{looks, Net, Valid, inputs, gate_at, wires, is_look, step}
+use Rattle.model.specs.Net.{Net, Valid, inputs, gate_at, wires, is_look}
 use Rattle.model.specs.Deal.{Deal, Lawful, part, part_length}
 use Rattle.model.proofs.Masks.{part_codes, part_length_lem}
 use Rattle.model.proofs.Lift.{lift, same_verdict}
@@ -14,7 +13,7 @@ use Rattle.model.specs.Host.{Phase, empty, waiting, Call, stock, enter, takes, w
 use Rattle.groups.specs.Tested.{are_codes}
 use Rattle.model.specs.Shelf.{Desk, nowhere, control_at, room_at, room_length, is_hear, same_counts, at_look, frame, shelf_verdict, Served, accepted, refusing, serve}
 use Rattle.model.specs.Place.{place_of, Proper, Lifted}
-use Rattle.secrecy.specs.Evaluation.{Log, first, second, shift}
+use Rattle.secrecy.specs.Evaluation.{Log, shift}
 use Rattle.secrecy.specs.Script.{Step, dealt, rejected, enters, common, Item, first_call, second_call, top_part, left, firsts, seconds, swap_step, swap_item, Seen, seen, runs, refusal, log_from, fresh, only, logs, shifted_by, shifted, Every, Other, Private, Goes, GoesAll, ReadAll, Agreed, AgreeBy, Agree}
 use Rattle.secrecy.proofs.Shift as sh
 use Rattle.secrecy.proofs.Control.{codes_are, refusal_below, phase_is, Stage}

@@ -1,7 +1,6 @@
-use Rattle.std.proofs.Common.{◌≡◌, ◌+◌, ◌-◌, ◌<◌, ◌≤◌, length, get_or, take, sym, ap, ◌∙◌, ap₂, arith, length-set}
+use Rattle.std.proofs.Common.{◌≡◌, ◌+◌, ◌-◌, ◌<◌, length, get_or, take, sym, ap, ◌∙◌, ap₂, arith, length-set}
 use Rattle.std.proofs.lemmas.List.{length-map}
-use Rattle.model.specs.Words.{mark}
-use Rattle.model.specs.Net.{inputs, is_look, look_count, step, grow, flow}
+use Rattle.model.specs.Net.{look_count, step, grow}
 use Rattle.model.specs.Deal.{masking}
 use Rattle.files.specs.Gates.{gate_of, no_gate}
 use Rattle.circuits.specs.Circuits.{net}

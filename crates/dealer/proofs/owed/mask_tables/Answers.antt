@@ -1,9 +1,8 @@
-use Rattle.std.proofs.Common.{◌≡◌, ℕ, ◌+◌, ◌-◌, ◌<◌, ◌≤◌, ◌++◌, length, get_or, take, sym, ap, ◌∙◌, subst, arith}
+use Rattle.std.proofs.Common.{◌+◌, ◌-◌, ◌≤◌, ◌++◌, length, get_or, take, ap, ◌∙◌, arith}
 use borrow.Rule.Slice.PartMut.{post_of}
 use Rattle.std.proofs.lemmas.List.Edits.{length-between}
 use Rattle.model.specs.Words.{at, each}
-use Rattle.model.specs.Net.{inputs}
-use Rattle.model.specs.Deal.{cells, cell, owed_at}
+use Rattle.model.specs.Deal.{cell}
 use Rattle.files.specs.Gates.{no_gate}
 use Rattle.circuits.specs.Circuits.{net}
 use Rattle.dealer.proofs.Tables.{look_gate, cells_room, cells_few, start_look, start_rest, start_all, tables_more}

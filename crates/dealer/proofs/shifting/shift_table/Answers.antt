@@ -1,5 +1,4 @@
-use Rattle.std.proofs.Common.{◌≡◌, ◌<◌, length, get_or, ap, ◌∙◌, arith}
-use Rattle.model.specs.Words.{at}
+use Rattle.std.proofs.Common.{arith}
 use Rattle.circuits.specs.Circuits.{net}
 use Rattle.dealer.proofs.Places.{written_more, written_all}
 use Rattle.dealer.proofs.Shifts.{cell_step, moved_code}

@@ -1,15 +1,13 @@
-use Rattle.std.proofs.Common.{◌≡◌, ℕ, ◌+◌, ◌-◌, ◌<◌, ◌≤◌, ◌++◌, length, get_or, take, drop, sym, ap, ◌∙◌, subst, arith}
+use Rattle.std.proofs.Common.{◌+◌, ◌-◌, ◌≤◌, ◌++◌, length, get_or, take, drop, ap, ◌∙◌, arith}
 use borrow.Rule.Slice.PartMut.{post_of}
 use Rattle.std.proofs.lemmas.List.Edits.{length-between}
 use Rattle.std.proofs.lemmas.List.{get_or-drop}
 use Rattle.groups.specs.Group.{sub}
 use Rattle.model.specs.Words.{at, each}
-use Rattle.model.specs.Net.{inputs}
-use Rattle.model.specs.Deal.{cells, cell}
+use Rattle.model.specs.Deal.{cell}
 use Rattle.model.specs.Shifted.{moved_masks}
 use Rattle.files.specs.Gates.{no_gate}
 use Rattle.circuits.specs.Circuits.{net}
-use Rattle.dealer.proofs.Places.{Written}
 use Rattle.dealer.proofs.Tables.{look_gate, cells_room, cells_few, start_look, start_rest, start_all}
 use Rattle.dealer.proofs.Shifts.{tables_shifted}
 use Rattle.dealer.proofs.shifting.shift_tables.Goals as goal

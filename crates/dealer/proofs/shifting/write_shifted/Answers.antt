@@ -1,5 +1,5 @@
-use Rattle.std.proofs.Common.{◌≡◌, ◌+◌, ◌-◌, ◌++◌, length, take, drop, sym, ap, ◌∙◌, ap₂, arith}
-use Rattle.model.specs.Deal.{columns, owned, own_masks}
+use Rattle.std.proofs.Common.{◌≡◌, ◌-◌, length, take, ap, ◌∙◌, arith}
+use Rattle.model.specs.Deal.{owned, own_masks}
 use Rattle.circuits.specs.Circuits.{net}
 use Rattle.dealer.proofs.Dealt.{put_end}
 use Rattle.dealer.proofs.Shifts.{part_shifted}

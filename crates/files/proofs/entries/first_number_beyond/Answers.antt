@@ -1,5 +1,4 @@
-use Rattle.std.proofs.Common.{◌≡◌, ◌≤◌, length, sym, ap, ◌∙◌, arith, rules}
-use Rattle.files.specs.Format.{numbers}
+use Rattle.std.proofs.Common.{◌≤◌, length, sym, ap, ◌∙◌, rules}
 use Rattle.files.specs.Faults.{beyond}
 use Rattle.files.proofs.Left.{beyond_goes, numbers_more}
 use Rattle.files.proofs.entries.first_number_beyond.Goals as goal

@@ -1,7 +1,7 @@
 use Rattle.std.proofs.Common.{◌≡◌, ℕ, ◌≤◌, length, take, drop, sym, ap, ◌∙◌, subst, arith}
 use Rattle.files.specs.declared.directory.Directory.{Directory}
 use Rattle.files.specs.Gates.{gates_of}
-use Rattle.files.specs.Format.{section, gates_at, outputs_at, gate_entries, known, numbers}
+use Rattle.files.specs.Format.{gates_at, outputs_at, gate_entries, known, numbers}
 use Rattle.files.proofs.Passed.{section_length, gates_in, outputs_in}
 use Rattle.files.proofs.reading.read.Goals as goal
 

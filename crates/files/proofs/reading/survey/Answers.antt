@@ -1,7 +1,6 @@
-use Rattle.std.proofs.Common.{◌≡◌, length, Some, None, Option, ap, subst, rules}
+use Rattle.std.proofs.Common.{◌≡◌, length, Some, None, ap, subst, rules}
 use Rattle.std.proofs.lemmas.Result.{err_from_is_err_and}
 use Rattle.std.proofs.lemmas.Bool.{lt-leb}
-use Rattle.refusals.specs.declared.Refusal.{Refusal}
 use Rattle.refusals.specs.declared.Refusal.TheVariants.{Layout}
 use Rattle.files.specs.declared.header.Header.{Header}
 use Rattle.refusals.specs.Tests.{unless}

@@ -1,4 +1,4 @@
-use Rattle.std.proofs.Common.{◌≡◌, ℕ, ◌+◌, ◌≤◌, List, length, take, drop, ◌∙◌, subst, arith, rules}
+use Rattle.std.proofs.Common.{◌≡◌, ℕ, List, ◌∙◌, subst, rules}
 use Rattle.model.specs.Net.{look_count}
 use Rattle.refusals.specs.Tests.{Tested}
 use Rattle.files.specs.Format.{gate_entries, known}
