@@ -95,6 +95,15 @@ def own_names(paths):
     return {n for n in names if needs_turn(n)}
 
 
+def aliases(paths):
+    """Second names that clauses give to definitions."""
+    names = set()
+    for path in paths:
+        for m in re.finditer(r"^\s*ghost use .*", open(path).read(), re.M):
+            names.update(re.findall(r" as ([^\s,};]+)", m.group(0)))
+    return {n for n in names if needs_turn(n)}
+
+
 def library_names(code):
     """Names that a file brings in from elsewhere than this repository."""
     found = set()
@@ -135,7 +144,7 @@ def replaced(token, names, keep, path, changed):
 def main():
     antt = sorted(glob.glob("crates/*/specs/**/*.antt", recursive=True) + glob.glob("crates/*/proofs/**/*.antt", recursive=True))
     rust = sorted(glob.glob("crates/*/src/**/*.rt", recursive=True))
-    names = own_names(antt) | set(BY_HAND)
+    names = own_names(antt) | aliases(rust) | set(BY_HAND)
     tokens = set()
     for path in antt + rust:
         tokens.update(re.findall(TOKEN, open(path).read()))

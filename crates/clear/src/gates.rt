@@ -2,7 +2,7 @@
 ghost use Rattle.std.specs.Prelude.{◌≡◌, ◌+◌, ◌*◌, ◌<◌, ◌≤◌, length, take, drop};
 ghost use Rattle.files.specs.Gates.{gate_of};
 ghost use Rattle.model.specs.Words.{Below};
-ghost use Rattle.model.specs.Net.{inputs, wires as allWires, first_of, second_of, limit, row_count, table_count, step, flow};
+ghost use Rattle.model.specs.Net.{inputs, wires as all_wires, first_of, second_of, limit, row_count, table_count, step, flow};
 ghost use Rattle.model.specs.Clear.{clearly};
 ghost use Rattle.circuits.specs.Circuits.{net};
 
@@ -41,7 +41,7 @@ fn gate_value<G: MaskGroup>(group: &G, circuit: &Circuit<'_>, known: &[u8], gate
 // Fills the wires that follow the inputs, whose values stand at the front.
 pub(crate) fn run_gates<G: MaskGroup>(group: &G, circuit: &Circuit<'_>, wires: &mut [u8])
     requires size { (G.means group.now).size ≡ (net circuit.now).size }
-    requires places { length wires.old ≡ allWires (net circuit.now) }
+    requires places { length wires.old ≡ all_wires (net circuit.now) }
     requires codes { Below (net circuit.now).size (take (inputs (net circuit.now)) wires.old) }
     ensures { wires.new ≡ flow (G.means group.now) (net circuit.now) (clearly (G.means group.now) (net circuit.now)) (take (inputs (net circuit.now)) wires.old) }
 {

@@ -1,7 +1,7 @@
 // The clear run as a call.
 ghost use Rattle.std.specs.Prelude.{◌≡◌, length, OnErr};
 ghost use Rattle.refusals.specs.Tests.{Tested};
-ghost use Rattle.model.specs.Net.{wires as allWires};
+ghost use Rattle.model.specs.Net.{wires as all_wires};
 ghost use Rattle.model.specs.Clear.{clear, outputs_of};
 ghost use Rattle.circuits.specs.Circuits.{net};
 ghost use Rattle.clear.specs.Runs.{Ready, run_fault};
@@ -39,7 +39,7 @@ fn test<G: MaskGroup>(
 
 // Writes the values of the output wires.
 fn read_outputs(circuit: &Circuit<'_>, wires: &[u8], outputs: &mut [u8])
-    requires wires { length wires.now ≡ allWires (net circuit.now) }
+    requires wires { length wires.now ≡ all_wires (net circuit.now) }
     requires outputs { length outputs.old ≡ length (net circuit.now).outputs }
     ensures { outputs.new ≡ outputs_of (net circuit.now) wires.now }
 {

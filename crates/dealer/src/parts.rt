@@ -2,7 +2,7 @@
 ghost use Rattle.std.specs.Prelude.{◌≡◌, length, OnErr};
 ghost use Rattle.refusals.specs.Tests.{Tested};
 ghost use Rattle.model.specs.Net.{wires};
-ghost use Rattle.model.specs.Deal.{Lawful, masks as masksOf, part as part_of};
+ghost use Rattle.model.specs.Deal.{Lawful, masks as masks_of, part as part_of};
 ghost use Rattle.model.specs.Tape.{tape_length, deal_of};
 ghost use Rattle.circuits.specs.Circuits.{net};
 ghost use Rattle.dealer.specs.Parts.{Ready, part_fault};
@@ -47,7 +47,7 @@ fn test<G: MaskGroup>(
 fn write_masks<G: MaskGroup>(group: &G, circuit: &Circuit<'_>, tape: &[u8], masks: &mut [u8])
     requires tape { length tape.now ≡ tape_length (net circuit.now) }
     requires places { length masks.old ≡ wires (net circuit.now) }
-    ensures { masks.new ≡ masksOf (G.means group.now) (net circuit.now) (deal_of (G.means group.now) (net circuit.now) tape.now) }
+    ensures { masks.new ≡ masks_of (G.means group.now) (net circuit.now) (deal_of (G.means group.now) (net circuit.now) tape.now) }
 {
     let inputs = circuit.input_count();
     let end = inputs + circuit.look_count() as usize;
@@ -65,7 +65,7 @@ fn write_part<G: MaskGroup>(
     part: &mut [u8],
 )
     requires ready { Ready (G.means group.now) (net circuit.now) tape.now party (length masks.now) (length part.old) }
-    requires masks { masks.now ≡ masksOf (G.means group.now) (net circuit.now) (deal_of (G.means group.now) (net circuit.now) tape.now) }
+    requires masks { masks.now ≡ masks_of (G.means group.now) (net circuit.now) (deal_of (G.means group.now) (net circuit.now) tape.now) }
     ensures { part.new ≡ part_of (net circuit.now) party (deal_of (G.means group.now) (net circuit.now) tape.now) }
 {
     let inputs = circuit.input_count();
@@ -89,7 +89,7 @@ pub fn deal_part<G: MaskGroup>(
     masks: &mut [u8],
     part: &mut [u8],
 ) -> Result<(), Refusal>
-    ensures tested { Tested (part_fault (G.means group.now) (net circuit.now) tape.now party (length masks.old) (length part.old)) result (λ _. (masks.new ≡ masksOf (G.means group.now) (net circuit.now) (deal_of (G.means group.now) (net circuit.now) tape.now)) × (part.new ≡ part_of (net circuit.now) party (deal_of (G.means group.now) (net circuit.now) tape.now)) × Lawful (G.means group.now) (net circuit.now) (deal_of (G.means group.now) (net circuit.now) tape.now)) }
+    ensures tested { Tested (part_fault (G.means group.now) (net circuit.now) tape.now party (length masks.old) (length part.old)) result (λ _. (masks.new ≡ masks_of (G.means group.now) (net circuit.now) (deal_of (G.means group.now) (net circuit.now) tape.now)) × (part.new ≡ part_of (net circuit.now) party (deal_of (G.means group.now) (net circuit.now) tape.now)) × Lawful (G.means group.now) (net circuit.now) (deal_of (G.means group.now) (net circuit.now) tape.now)) }
     ensures kept { OnErr result ((masks.new ≡ masks.old) × (part.new ≡ part.old)) }
 {
     test(group, circuit, tape, party, masks.len(), part.len())?;

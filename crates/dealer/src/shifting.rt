@@ -5,7 +5,7 @@ ghost use Rattle.files.specs.declared.gate.Kind.TheVariants.{Look};
 ghost use Rattle.groups.specs.Group.{sub};
 ghost use Rattle.model.specs.Words.{at, each, Below};
 ghost use Rattle.model.specs.Net.{wires, table_count, entry as entry_at};
-ghost use Rattle.model.specs.Deal.{cells as cellCount, columns, cell};
+ghost use Rattle.model.specs.Deal.{cells as cell_count, columns, cell};
 ghost use Rattle.model.specs.Shifted.{moved_masks, shifted_share, shifted_part};
 ghost use Rattle.circuits.specs.Circuits.{net};
 ghost use Rattle.dealer.specs.Shifts.{shift_fault, Shiftable};
@@ -114,9 +114,9 @@ fn shift_tables<G: MaskGroup>(
     requires moved { length differences.now ≡ wires (net circuit.now) }
     requires masks { Below (net circuit.now).size masks.now }
     requires differences { Below (net circuit.now).size differences.now }
-    requires room { cellCount (net circuit.now) ≤ length block.old }
-    ensures done { (k : ℕ) → k < cellCount (net circuit.now) → at block.new k ≡ shifted_share (G.means group.now) (net circuit.now) masks.now differences.now (at block.old k) k }
-    ensures left { (k : ℕ) → cellCount (net circuit.now) ≤ k → at block.new k ≡ at block.old k }
+    requires room { cell_count (net circuit.now) ≤ length block.old }
+    ensures done { (k : ℕ) → k < cell_count (net circuit.now) → at block.new k ≡ shifted_share (G.means group.now) (net circuit.now) masks.now differences.now (at block.old k) k }
+    ensures left { (k : ℕ) → cell_count (net circuit.now) ≤ k → at block.new k ≡ at block.old k }
 {
     let size = circuit.size() as usize;
     let mut wire = circuit.input_count();
