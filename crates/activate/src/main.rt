@@ -1,7 +1,8 @@
+//! One real task from first to last: the example circuit's file is read and tested, made a circuit, run in the
+//! clear, and dealt to its parties.
+
 #![tactic(auto)]
 
-// One real task from first to last: the example circuit's file is read and tested, made a circuit, run in the
-// clear, and dealt to its parties.
 use circuits::Circuit;
 use clear::evaluate;
 use dealer::{deal_part, part_length};

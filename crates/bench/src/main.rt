@@ -1,6 +1,7 @@
+//! Figures, when asked for by a word on the command line; without one it says which there are, so that its run is fixed.
+
 #![tactic(auto)]
 
-// Figures, when asked for by a word on the command line; without one it says which there are, so that its run is fixed.
 use circuits::Circuit;
 use dealer::{deal_part, part_length, tape_length};
 use files::{Gate, Kind, read};

@@ -45,26 +45,26 @@ fn test<G: MaskGroup>(
     Ok(())
 }
 
-// What a masked table has at `j`, the operand's mask being `operand` and the result's `result`.
+// What a masked table has at `j`, the operand's mask being `operand` and that of the gate's own wire `mask`.
 fn masked_entry<G: MaskGroup>(
     group: &G,
     circuit: &Circuit<'_>,
     table: usize,
     operand: u8,
-    res: u8,
+    mask: u8,
     j: u8,
 ) -> u8
     requires size { (G.means group.now).size ≡ (net circuit.now).size }
     requires table { table < table_count (net circuit.now) }
     requires operand { operand < (net circuit.now).size }
     requires within { j < (net circuit.now).size }
-    ensures { result ≡ (G.means group.now).add (entry_at (net circuit.now) table (sub (G.means group.now) j operand)) res }
+    ensures { result ≡ (G.means group.now).add (entry_at (net circuit.now) table (sub (G.means group.now) j operand)) mask }
 {
     let place = group.subtract(j, operand);
     let tables = circuit.tables();
     group.add(
         tables[table * circuit.size() as usize + place as usize],
-        res,
+        mask,
     )
 }
 

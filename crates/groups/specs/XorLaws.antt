@@ -1,5 +1,5 @@
 -- Exclusive or of g bits meets the laws.
-use Rattle.std.specs.Prelude.{◌≡◌, ℕ, zero, suc, ◌+◌, ◌/◌, ◌%◌, ◌^◌, ◌<◌, ◌≤◌, List, ◌≢◌, bit_and, bit_xor, slice_index, slice_index_or, refl}
+use Rattle.std.specs.Prelude.{◌≡◌, ℕ, zero, suc, ◌+◌, ◌/◌, ◌%◌, ◌^◌, ◌<◌, ◌≤◌, List, ◌≢◌, bit_and, bit_xor, slice_index, refl}
 use Rattle.std.proofs.Common.{sym, ap, ap₂, ◌∙◌, mod-lt, add-one, arith, pow_pos, pow_mono}
 use Rattle.std.proofs.lemmas.Nat.{and_mask, xor_lt, xor_comm, xor_shr, xor_mod}
 use Rattle.std.specs.Int.Bits.{xor_assoc, xor_self, xor_zero_r}
@@ -28,7 +28,7 @@ picked_xor zero row a b = refl
 picked_xor (suc n) row a b =
     let x = a / 2 ^ n % 2 in
     let y = b / 2 ^ n % 2 in
-    let v = slice_index_or row n 0 in
+    let v = slice_index row n in
     ap₂ bit_xor (picked_xor n row a b) (ap (λ d. if_set d v) (digit_xor a b n) ∙ if_set_xor x y v (mod-lt (a / 2 ^ n) (omega arith)) (mod-lt (b / 2 ^ n) (omega arith)))
     ∙ ab.swap xors (picked n row a) (picked n row b) (if_set x v) (if_set y v)
 
@@ -65,7 +65,7 @@ module _ (row : List ℕ) (a n : ℕ) where
   pub picked_set : bit_and (a / 2 ^ n) 1 ≡ 1 → bit_xor (picked n row a) (slice_index row n) ≡ picked (n + 1) row a
   picked_set e = rw add-one (ap (λ d. bit_xor (picked n row a) (if_set d (slice_index row n))) (sym e ∙ bit_at))
 
-  pub picked_clear : (bit_and (a / 2 ^ n) 1 ≢ 1) → picked n row a ≡ picked (n + 1) row a
+  pub picked_clear : bit_and (a / 2 ^ n) 1 ≢ 1 → picked n row a ≡ picked (n + 1) row a
   picked_clear no_bit =
       let clear : a / 2 ^ n % 2 ≡ 0 = omega (arith, bit_at, mod-lt (a / 2 ^ n) {m = 2} (omega arith)) in
       rw add-one (sym (ap (λ d. bit_xor (picked n row a) (if_set d (slice_index row n))) clear ∙ xor_zero_r (picked n row a)))

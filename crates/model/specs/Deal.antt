@@ -1,5 +1,5 @@
 -- What a dealer hands out for one evaluation of a circuit.
-use Rattle.std.specs.Prelude.{◌≡◌, ℕ, ◌+◌, ◌-◌, ◌*◌, ◌/◌, ◌%◌, ◌<◌, cond, List, [], ◌∷◌, ◌++◌, map, length, take, drop, ◌==◌, nat_eq, nat_lt, slice_index_or}
+use Rattle.std.specs.Prelude.{◌≡◌, ℕ, ◌+◌, ◌-◌, ◌*◌, ◌/◌, ◌%◌, ◌<◌, cond, List, [], ◌∷◌, ◌++◌, map, length, take, drop, ◌==◌, nat_lt, slice_index_or}
 use Rattle.groups.specs.Group.{Group, Codes, sub}
 use Rattle.groups.specs.Total.{total}
 use Rattle.model.specs.Words.{at, each, tally}
@@ -63,7 +63,7 @@ pub record Lawful (G : Group) (net : Net) (d : Deal) : Type 0 where
 
 -- how many input wires party h owns, and how many of them stand before wire w
 abbrev pub owned : ℕ → List ℕ → ℕ
-owned h owners = tally (λ o. nat_eq o h) owners
+owned h owners = tally (λ o. o == h) owners
 
 -- the masks of the input wires that h owns, in order
 unfoldable pub own_masks : ℕ → List ℕ → List ℕ → List ℕ

@@ -1,5 +1,5 @@
 -- One place of a host of party h: the part of one deal and the masked values of the wires, driven by calls.
-use Rattle.std.specs.Prelude.{ℕ, zero, suc, ◌+◌, ◌-◌, ◌*◌, Bool, true, false, cond, not, ◌&&◌, List, [], ◌∷◌, ◌++◌, length, take, drop, set, replicate, ◌==◌, nat_lt, slice_index_or, slice_set}
+use Rattle.std.specs.Prelude.{ℕ, zero, suc, ◌+◌, ◌-◌, ◌*◌, Bool, true, false, cond, not, ◌&&◌, List, [], ◌∷◌, ◌++◌, length, take, drop, replicate, ◌==◌, nat_lt, slice_index_or, slice_set}
 use Rattle.groups.specs.Group.{Group, sub}
 use Rattle.groups.specs.Tested.{are_codes}
 use Rattle.groups.specs.Total.{total}
@@ -222,7 +222,7 @@ result_at G net h P cs k =
 -- the control after wire w is given, and where a WALK to gate g stops
 abbrev pub filling : Control → ℕ → Control
 filling c w =
-    let given = set c.given w true in
+    let given = slice_set c.given w true in
     record { phase = cond (lacking given == 0) walking gathering; given = given; gate = c.gate; shares = c.shares }
 
 abbrev pub walk_to : Control → ℕ → Stop → Control

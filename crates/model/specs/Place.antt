@@ -26,7 +26,7 @@ pub record Lifted (G : Group) (net : Net) (d : Desk) (shelf : List ℕ) (p : ℕ
   pub desk : (serve G net d shelf p call).desk ≡ seated d p (act G net d.party (place_of net d shelf p) call).place.control
   -- every other place is as it was
   pub others :
-      (o : ℕ) → o < length d.places → (o ≢ p)
+      (o : ℕ) → o < length d.places → o ≢ p
       → place_of net (serve G net d shelf p call).desk (serve G net d shelf p call).shelf o ≡ place_of net d shelf o
   -- and so are the bytes past the last
   pub past :

@@ -61,7 +61,7 @@ place_at net h shelf p c =
 -- the group's size and the circuit's counts are those of INSTALL
 abbrev pub same_counts : ℕ → Net → Desk → Bool
 same_counts q net d =
-    (net.size == q) && net.parties == d.parties && inputs net == d.inputs && length net.gates == d.gates
+    net.size == q && net.parties == d.parties && inputs net == d.inputs && length net.gates == d.gates
     && look_total net == d.looks && length net.outputs == d.outputs && owned d.party net.owners == d.own
 
 -- the gate at which a waiting place hears is a LOOK

@@ -246,7 +246,7 @@ Agree G net h s ds = AgreeBy G net h (logs G net h s) ds
 
 -- every other party's part is the same
 abbrev pub SameToOthers : Net → ℕ → Deal → Deal → Type 0
-SameToOthers net h d e = (p : ℕ) → (p ≢ h) → part net p d ≡ part net p e
+SameToOthers net h d e = (p : ℕ) → p ≢ h → part net p d ≡ part net p e
 
 unfoldable pub AllSame : Net → ℕ → List Deal → List Deal → Type 0
 AllSame net h [] [] = Unit {0}

@@ -72,28 +72,28 @@ loop-gate-preserved g c =
     let items = c.gates-gate-items.result.now in
     let gate = get_or items k no_gate in
     let meant = c.gates-gate-items.ensures.meant in
-    let in-items = c.loop-gate-test.true in
+    let in_items = c.loop-gate-test.true in
     let block = c.loop-gate.block in
     let start = c.loop-gate.start in
     let size = c.size-size.result in
     let same = c.size-size.ensures.is in
     elim c.match-gate.branch [
       | in-Look w ↦
-          let so = look_gate N items k meant circuit.wired in-items w.in-Look.is in
+          let so = look_gate N items k meant circuit.wired in_items w.in-Look.is in
           let room = cells_room G N ms k gate so in
           let within : start ≤ length block = omega (arith, c.loop-gate.invariant.1, c.requires.room) in
           let rest = post_of start ((start + size) - start) block in
           let masked = w.mask_table.ensures ∙ ap (λ n. each N.size (cell G N ms (record { wire = n; operand = gate.first; table = gate.second }))) c.loop-gate.invariant.0 in
           let is = w.block-is ∙ ap (λ ys. take start block ++ (ys ++ rest)) masked in (
             omega (arith, c.loop-gate.invariant.0),
-            w.start-is ∙ start_look N items k start meant in-items c.loop-gate.invariant.1 size same w.in-Look.is,
+            w.start-is ∙ start_look N items k start meant in_items c.loop-gate.invariant.1 size same w.in-Look.is,
             λ j h.
                 ap (λ xs. at xs j) is
                 ∙ tables_more G N ms k gate so block rest start c.loop-gate.invariant.1 within c.loop-gate.invariant.2 j (omega (arith, w.start-is, same)),
           )
       | in_default w ↦ (
         omega (arith, c.loop-gate.invariant.0),
-        w.start-is ∙ start_rest N items k start meant in-items c.loop-gate.invariant.1 w.in_default.not-Look,
+        w.start-is ∙ start_rest N items k start meant in_items c.loop-gate.invariant.1 w.in_default.not-Look,
         λ j h. ap (λ xs. at xs j) w.block-is ∙ c.loop-gate.invariant.2 j (omega (arith, w.start-is)),
       )
     ]

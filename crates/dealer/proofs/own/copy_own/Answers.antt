@@ -16,26 +16,26 @@ loop-i-preserved c =
     let os = c.args.owners.now in
     let ms = c.args.masks.now in
     let i = c.loop-i.i in
-    let in-os = c.loop-i-test.true in
-    let in-ms : i < length ms = omega (arith, c.requires.masks) in
+    let in_os = c.loop-i-test.true in
+    let in_ms : i < length ms = omega (arith, c.requires.masks) in
     let all = own_masks h os ms in
     let left = own_masks h (drop (i + 1) os) (drop (i + 1) ms) in
     elim c.if-owner-party.branch [
       | then-owner-party w ↦
           let own = w.if-owner-party.true in
-          let more = owned_yes h os i in-os own in
-          let below = owned_below h os i in-os own in
+          let more = owned_yes h os i in_os own in
+          let below = owned_below h os i in_os own in
           let room : c.loop-i.slot < length c.loop-i.part = omega (arith, c.requires.room) in (
             omega (arith, w.slot-is),
             omega (arith, w.slot-is),
-            ap₂ (λ n xs. take n xs ++ left) w.slot-is w.part-is ∙ copied_yes h os ms i in-os in-ms c.loop-i.part all c.loop-i.slot room own c.loop-i.invariant.2,
+            ap₂ (λ n xs. take n xs ++ left) w.slot-is w.part-is ∙ copied_yes h os ms i in_os in_ms c.loop-i.part all c.loop-i.slot room own c.loop-i.invariant.2,
           )
       | else-owner-party w ↦
           let other = w.if-owner-party.false in
-          let more = owned_no h os i in-os other in (
+          let more = owned_no h os i in_os other in (
             omega (arith, w.slot-is),
             omega (arith, w.slot-is),
-            ap₂ (λ n xs. take n xs ++ left) w.slot-is w.part-is ∙ copied_no h os ms i in-os in-ms c.loop-i.part all c.loop-i.slot other c.loop-i.invariant.2,
+            ap₂ (λ n xs. take n xs ++ left) w.slot-is w.part-is ∙ copied_no h os ms i in_os in_ms c.loop-i.part all c.loop-i.slot other c.loop-i.invariant.2,
           )
     ]
 

@@ -80,7 +80,7 @@ loop-gate-preserved g c =
     let items = c.gates-gate-items.result.now in
     let gate = get_or items k no_gate in
     let meant = c.gates-gate-items.ensures.meant in
-    let in-items = c.loop-gate-test.true in
+    let in_items = c.loop-gate-test.true in
     let block = c.loop-gate.block in
     let start = c.loop-gate.start in
     let size = c.size-size.result in
@@ -88,7 +88,7 @@ loop-gate-preserved g c =
     let n = (start + size) - start in
     elim c.match-gate.branch [
       | in-Look w ↦
-          let so = look_gate N items k meant circuit.wired in-items w.in-Look.is in
+          let so = look_gate N items k meant circuit.wired in_items w.in-Look.is in
           let room = cells_room G N ms k gate so in
           let within : start ≤ length block = omega (arith, c.loop-gate.invariant.1, c.requires.room) in
           let rest = post_of start n block in
@@ -96,7 +96,7 @@ loop-gate-preserved g c =
           let is = w.block-is ∙ ap (λ ys. take start block ++ (ys ++ rest)) new in
           let more = tables_shifted G ms ds N k gate so was block rest start n c.loop-gate.invariant.1 (omega arith) within (λ i. get_or-drop n (drop start block) i 0 ∙ get_or-drop start block (n + i) 0) c.loop-gate.invariant.2 in (
             omega (arith, c.loop-gate.invariant.0),
-            w.start-is ∙ start_look N items k start meant in-items c.loop-gate.invariant.1 size same w.in-Look.is,
+            w.start-is ∙ start_look N items k start meant in_items c.loop-gate.invariant.1 size same w.in-Look.is,
             record {
               done = λ j h. ap (λ xs. at xs j) is ∙ more.done j (omega (arith, w.start-is, same));
               left = λ j h. ap (λ xs. at xs j) is ∙ more.left j (omega (arith, w.start-is, same));
@@ -104,7 +104,7 @@ loop-gate-preserved g c =
           )
       | in_default w ↦ (
         omega (arith, c.loop-gate.invariant.0),
-        w.start-is ∙ start_rest N items k start meant in-items c.loop-gate.invariant.1 w.in_default.not-Look,
+        w.start-is ∙ start_rest N items k start meant in_items c.loop-gate.invariant.1 w.in_default.not-Look,
         record {
           done = λ j h. ap (λ xs. at xs j) w.block-is ∙ c.loop-gate.invariant.2.done j (omega (arith, w.start-is));
           left = λ j h. ap (λ xs. at xs j) w.block-is ∙ c.loop-gate.invariant.2.left j (omega (arith, w.start-is));
