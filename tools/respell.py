@@ -7,7 +7,6 @@ made keep theirs, and so do functions of src/, comments, strings, inputs and out
 """
 import glob
 import re
-import sys
 
 TOKEN = r"[^\s(){}\[\].;,|«»\"⟦⟧⌜⌝]+"
 # names of facts
@@ -46,9 +45,7 @@ def is_generated(path):
 def snake(name):
     if name in BY_HAND:
         return BY_HAND[name]
-    name = re.sub(r"(?<=[a-z0-9])([A-Z])", lambda m: "_" + m.group(1), name)
-    parts = name.replace("-", "_").split("_")
-    return "_".join(p.lower() for p in parts)
+    return re.sub(r"(?<=[a-z0-9])([A-Z])", r"_\1", name).replace("-", "_").lower()
 
 
 def needs_turn(name):
@@ -74,6 +71,7 @@ def split_code(line, is_rust):
 
 
 def own_names(paths):
+    """What the files define, bind or take as arguments, where its spelling is to change."""
     names = set()
     for path in paths:
         if is_generated(path):
@@ -109,9 +107,9 @@ def library_names(code):
     found = set()
     for m in re.finditer(r"use ([A-Za-z0-9_.+-]+?)\.\{([^}]*)\}", code):
         module = m.group(1)
-        if ".specs." in module and not module.startswith("Rattle.std") or ".proofs." in module and not module.startswith("Rattle.std"):
-            if not module.endswith(".Goals"):
-                continue
+        ours = re.search(r"\.(specs|proofs)\.", module) and not module.startswith("Rattle.std")
+        if ours and not module.endswith(".Goals"):
+            continue
         found.update(x.strip().split(" as ")[0] for x in m.group(2).split(","))
     return found
 
@@ -163,4 +161,4 @@ def main():
 
 
 if __name__ == "__main__":
-    sys.exit(main())
+    main()
