@@ -156,7 +156,7 @@ def main():
     for path in antt + rust:
         turn(path, names, changed)
     for name in sorted(changed):
-        made = [p for p in changed[name] if is_generated(p)]
+        made = [p for p in sorted(changed[name]) if is_generated(p)]
         print(f"{name} -> {snake(name)}: {len(changed[name])} files" + (", of them " + " ".join(made[:3]) if made else ""))
 
 
