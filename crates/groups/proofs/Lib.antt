@@ -1,3 +1,4 @@
 pub mod Derived
 pub mod Passing
+pub mod Powers
 pub mod Totals

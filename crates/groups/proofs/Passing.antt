@@ -1,25 +1,23 @@
--- A pass over numbers that notes whether one is no code.
-use Rattle.std.proofs.Common.{◌≡◌, ℕ, zero, suc, ◌+◌, ◌<◌, ◌≤◌, Bool, true, false, not, ◌&&◌, ◌||◌, ltb, leb, List, [], ◌∷◌, length, get_or, drop, sym, refl, ap, ◌∙◌, arith}
-use Rattle.std.proofs.lemmas.List.{at_drop_more, at_drop_all}
+-- The test whether a list holds codes.
+use Rattle.std.proofs.Common.{◌≡◌, ℕ, zero, suc, ◌<◌, Bool, true, false, ◌&&◌, ltb, List, [], ◌∷◌, ◌++◌, length, get_or, refl, ap, ◌∙◌, arith}
 use Rattle.std.proofs.lemmas.Bool.{ltb-true, and_parts}
-use Rattle.std.proofs.lemmas.Bool.Decides.{nat_tests}
 use Rattle.groups.specs.Tested.{are_codes}
 
-noted : (q x : ℕ) (bad rest : Bool) → (not (bad || leb q x) && rest) ≡ (not bad && (ltb x q && rest))
-noted q x true rest = refl
-noted q x false rest = let turned : not (leb q x) ≡ ltb x q = grind (arith, nat_tests) in ap (λ b. b && rest) turned
+pub are_codes_append : (q : ℕ) (xs ys : List ℕ) → are_codes q (xs ++ ys) ≡ (are_codes q xs && are_codes q ys)
+are_codes_append q [] ys = refl
+are_codes_append q (x ∷ xs) ys = go (ltb x q) (are_codes q xs) (are_codes q ys) (are_codes_append q xs ys)
+  where
+    go : (b d e : Bool) {c : Bool} → c ≡ (d && e) → (b && c) ≡ ((b && d) && e)
+    go true d e p = p
+    go false d e p = refl
 
 and_true : (b : Bool) → (b && true) ≡ b
 and_true true = refl
 and_true false = refl
 
-pub pass_more : (q : ℕ) (xs : List ℕ) (i : ℕ) (bad all : Bool) → i < length xs → (not bad && are_codes q (drop i xs)) ≡ all
-    → (not (bad || leb q (get_or xs i 0)) && are_codes q (drop (i + 1) xs)) ≡ all
-pass_more q xs i bad all within so =
-    noted q (get_or xs i 0) bad (are_codes q (drop (i + 1) xs)) ∙ sym (at_drop_more (λ ys. not bad && are_codes q ys) xs i 0 within) ∙ so
-
-pub pass_all : (q : ℕ) (xs : List ℕ) (i : ℕ) (bad all : Bool) → length xs ≤ i → (not bad && are_codes q (drop i xs)) ≡ all → not bad ≡ all
-pass_all q xs i bad all done so = sym (and_true (not bad)) ∙ sym (at_drop_all (λ ys. not bad && are_codes q ys) xs i done) ∙ so
+-- one number more
+pub are_codes_push : (q : ℕ) (xs : List ℕ) (x : ℕ) → are_codes q (xs ++ x ∷ []) ≡ (are_codes q xs && ltb x q)
+are_codes_push q xs x = are_codes_append q xs (x ∷ []) ∙ ap (λ b. are_codes q xs && b) (and_true (ltb x q))
 
 -- what passes is codes
 pub codes_below : (q : ℕ) (xs : List ℕ) → are_codes q xs ≡ true → (k : ℕ) → k < length xs → get_or xs k 0 < q

@@ -20,14 +20,9 @@ impl Xor {
         ensures allowed { is_ok result ≡ xor_size size }
     {
         match size {
-            2 => Ok(Xor { bits: 1 }),
-            4 => Ok(Xor { bits: 2 }),
-            8 => Ok(Xor { bits: 3 }),
-            16 => Ok(Xor { bits: 4 }),
-            32 => Ok(Xor { bits: 5 }),
-            64 => Ok(Xor { bits: 6 }),
-            128 => Ok(Xor { bits: 7 }),
-            256 => Ok(Xor { bits: 8 }),
+            2..=256 if size.is_power_of_two() => Ok(Xor {
+                bits: size.trailing_zeros() as u8,
+            }),
             _ => Err(Refusal::Group),
         }
     }
@@ -56,9 +51,9 @@ impl MaskGroup for Xor {
 
     fn image(&self, row: &[u8; 8], a: u8) -> u8 {
         let mut sum = 0;
-        for i in 0..self.bits {
+        for (i, image) in row[..usize::from(self.bits)].iter().enumerate() {
             if (a >> i) & 1 == 1 {
-                sum ^= row[i as usize];
+                sum ^= *image;
             }
         }
         sum

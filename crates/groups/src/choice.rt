@@ -11,6 +11,7 @@ use refusals::Refusal;
 pub fn group(word: &str, size: u32) -> Result<Kind, Refusal>
     ensures { MatchResult result (λ k. Names word.now size k) (λ e. (e ≡ Refusal.Group) × ((k : Kind) → Names word.now size k → ⊥)) }
 {
+    // There are two words, and a match against them is a form that the project asks for.
     match word {
         "xor" => {
             Xor::new(size)?;

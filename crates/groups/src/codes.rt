@@ -7,9 +7,7 @@ pub fn are_codes(numbers: &[u8], size: u16) -> bool
     ensures is { result ≡ are_codes size numbers.now }
     ensures codes { result ≡ true → (k : ℕ) → k < length numbers.now → slice_index numbers.now k < size }
 {
-    let mut bad = false;
-    for n in numbers {
-        bad |= *n as u16 >= size;
-    }
-    !bad
+    numbers
+        .iter()
+        .fold(true, |all, n| all & (u16::from(*n) < size))
 }

@@ -23,7 +23,7 @@ pub enum Kind {
 }
 
 impl Kind {
-    /// 1 for xor and 2 for mod.
+    /// 1 for xor and 2 for mod. A number, because hosts say by it which group they mean; inside, the kind is an enum.
     pub fn number(self) -> u8
         ensures { result ≡ kind_number self }
     {

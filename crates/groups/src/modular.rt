@@ -15,6 +15,7 @@ pub struct Mod {
 
 impl Mod {
     /// The group of `size` codes, or `Refusal::Group` unless that is from 2 to 256.
+    // As `Xor::new`, of another type: what the two share are two lines of a match.
     pub fn new(size: u32) -> Result<Mod, Refusal>
         ensures made { MatchResult result (λ m. m.modulus ≡ size) (λ e. e ≡ Refusal.Group) }
         ensures allowed { is_ok result ≡ mod_size size }
@@ -54,14 +55,14 @@ impl MaskGroup for Mod {
     }
 
     fn add(&self, a: u8, b: u8) -> u8 {
-        reduced(a as u16 + b as u16, self.modulus) as u8
+        reduced(u16::from(a) + u16::from(b), self.modulus) as u8
     }
 
     fn negate(&self, a: u8) -> u8 {
-        reduced(self.modulus.saturating_sub(a as u16), self.modulus) as u8
+        reduced(self.modulus.saturating_sub(u16::from(a)), self.modulus) as u8
     }
 
     fn image(&self, row: &[u8; 8], a: u8) -> u8 {
-        (row[0] as u16 * a as u16 % self.modulus) as u8
+        (u16::from(row[0]) * u16::from(a) % self.modulus) as u8
     }
 }

@@ -9,11 +9,7 @@ use crate::masks::MaskGroup;
 pub fn sum<G: MaskGroup>(group: &G, codes: &[u8]) -> u8
     ensures { result ≡ total (G.means group.now) codes.now }
 {
-    let mut all = 0;
-    for c in codes {
-        all = group.add(all, *c);
-    }
-    all
+    codes.iter().fold(0, |sum, c| group.add(sum, *c))
 }
 
 /// States what the laws give for codes: a theorem, and no work.

@@ -7,7 +7,8 @@ use Rattle.model.specs.Words.{at, Below, mark}
 use Rattle.model.specs.Net.{Gate, adds, shifts, maps, looks, Net, inputs, gate_at, is_look, ordinal}
 use Rattle.model.specs.Deal.{part}
 use Rattle.model.proofs.Counts.{tally_more}
-use Rattle.model.proofs.Coded.{are_codes_all, are_codes_each}
+use Rattle.groups.proofs.Passing.{codes_below}
+use Rattle.model.proofs.Coded.{are_codes_all}
 use Rattle.model.specs.Host.{Phase, empty, gathering, walking, waiting, ended, opened, Call, stock, enter, takes, walk, hear, opens, close, drops, Control, lacking, Test, or, failing, rank, is, asks, stride, steps, the_end, a_look, on_the_way, stop_of, stop_at, ask, fits}
 use Rattle.groups.specs.Tested.{are_codes}
 use Rattle.secrecy.specs.Evaluation.{Given, missing, entered, taken, Log, given_at, Sane}
@@ -38,7 +39,7 @@ pub phase_is : (p q : Phase) → is p q ≡ true → q ≡ p
 phase_is p q e = sym (unrank_rank q) ∙ ap unrank (eqb-true (rank q) (rank p) e) ∙ unrank_rank p
 
 pub codes_true : (G : Group) (net : Net) → G.size ≡ net.size → (xs : List ℕ) → are_codes net.size xs ≡ true → Codes G xs
-codes_true G net same xs e = subst (λ (q : ℕ). Below q xs) (sym same) (are_codes_each net.size xs e)
+codes_true G net same xs e = subst (λ (q : ℕ). Below q xs) (sym same) (codes_below net.size xs e)
 
 pub codes_are : (G : Group) (net : Net) → G.size ≡ net.size → (xs : List ℕ) → Codes G xs → are_codes net.size xs ≡ true
 codes_are G net same xs c = are_codes_all net.size xs (subst (λ (q : ℕ). Below q xs) same c)

@@ -1,11 +1,13 @@
-use Rattle.std.proofs.Common.{sym, ◌∙◌}
-use Rattle.groups.proofs.Passing.{pass_more, pass_all, codes_below}
+use Rattle.std.proofs.Common.{◌≡◌, sym, ◌∙◌, refl, subst, rules, tests}
+use Rattle.std.proofs.lemmas.Fn.{fold_over, slice_gives, fronts}
+use Rattle.groups.specs.Tested.{are_codes}
+use Rattle.groups.proofs.Passing.{are_codes_push, codes_below}
 use Rattle.groups.proofs.codes.are_codes.Goals as goal
-
-pub loop-n-preserved : goal.loop-n-preserved
-loop-n-preserved c = pass_more c.args.size c.args.numbers.now c.loop-n.n-index c.loop-n.bad _ c.loop-n-test.true c.loop-n.invariant
 
 pub returns : goal.returns
 returns c =
-    let is = pass_all c.args.size c.args.numbers.now c.loop-n.n-index c.loop-n.bad _ c.loop-n-test.false c.loop-n.invariant in
-    record { is = is; codes = λ yes. codes_below c.args.size c.args.numbers.now (sym is ∙ yes) }
+    let q = c.args.size in
+    let is : c.fold.result ≡ are_codes q c.args.numbers.now =
+    subst (λ xs. c.fold.result ≡ are_codes q xs) c.iter.ensures.rest
+    (fold_over fronts (λ y. y.now) _ (λ ys b. b ≡ are_codes q ys) _ (λ ys a x b f' so k. let more = are_codes_push q ys x.now in search (rules, tests)) _ _ _ _ (slice_gives c.iter.result) refl c.fold.ensures.ran) in
+    record { is = is; codes = λ passed. codes_below q c.args.numbers.now (sym is ∙ passed) }
