@@ -1,4 +1,4 @@
--- The first refusal of a list of tests, where the tests before it pass.
+-- A list of tests, where those before the last pass.
 use Rattle.std.proofs.Common.{◌≡◌, ℕ, ◌≤◌, List, length, Some, None, Option, ap, ◌∙◌}
 use Rattle.std.proofs.lemmas.Bool.{le-leb}
 use Rattle.refusals.specs.declared.Refusal.{Refusal}
@@ -7,46 +7,23 @@ use Rattle.refusals.specs.Tests.{unless, before}
 use Rattle.files.specs.Format.{header_of}
 use Rattle.files.specs.Faults.{length_fault, counts_fault, pairs_fault, places_fault, sections_fault, fault}
 
-pub refuses : (t rest : Option Refusal) {r : Refusal} → t ≡ Some r → before t rest ≡ Some r
-refuses t rest e = ap (λ x. before x rest) e
-
-pub passes : (t rest : Option Refusal) {r : Option Refusal} → t ≡ None → rest ≡ r → before t rest ≡ r
+passes : (t rest : Option Refusal) {r : Option Refusal} → t ≡ None → rest ≡ r → before t rest ≡ r
 passes t rest e f = ap (λ x. before x rest) e ∙ f
 
 last : (t : Option Refusal) {r : Option Refusal} → t ≡ r → before t None ≡ r
 last None e = e
 last (Some r) e = e
 
-module _ (f : List ℕ) (g o : ℕ) where
-  pub length_refuses : {r : Refusal} → length_fault f ≡ Some r → fault f g o ≡ Some r
+module _ (f : List ℕ) (g o : ℕ) (long : 54 ≤ length f) (counts : counts_fault f ≡ None) (pairs : pairs_fault f ≡ None) where
+  front_passes : {r : Option Refusal} → before (places_fault (header_of f) g o) (before (sections_fault f) None) ≡ r → fault f g o ≡ r
   unfolding fault
-  length_refuses = refuses (length_fault f) (before (counts_fault f) (before (pairs_fault f) (before (places_fault (header_of f) g o) (before (sections_fault f) None))))
+  front_passes e =
+      passes (length_fault f) _ (ap (λ b. unless b (Layout (length f))) (le-leb 54 (length f) long))
+      (passes (counts_fault f) _ counts (passes (pairs_fault f) _ pairs e))
 
-  module _ (long : 54 ≤ length f) where
-    -- after a file that is long enough, the other tests
-    long_passes : {r : Option Refusal} → before (counts_fault f) (before (pairs_fault f) (before (places_fault (header_of f) g o) (before (sections_fault f) None))) ≡ r → fault f g o ≡ r
-    unfolding fault
-    long_passes =
-        passes (length_fault f) (before (counts_fault f) (before (pairs_fault f) (before (places_fault (header_of f) g o) (before (sections_fault f) None))))
-        (ap (λ b. unless b (Layout (length f))) (le-leb 54 (length f) long))
+  -- then too few places refuse, and where there are enough the sections decide, whatever they come to
+  pub places_refuse : {r : Refusal} → places_fault (header_of f) g o ≡ Some r → fault f g o ≡ Some r
+  places_refuse e = front_passes (ap (λ x. before x (before (sections_fault f) None)) e)
 
-    pub counts_refuse : {r : Refusal} → counts_fault f ≡ Some r → fault f g o ≡ Some r
-    counts_refuse e = long_passes (refuses (counts_fault f) (before (pairs_fault f) (before (places_fault (header_of f) g o) (before (sections_fault f) None))) e)
-
-    module _ (counts : counts_fault f ≡ None) where
-      counts_pass : {r : Option Refusal} → before (pairs_fault f) (before (places_fault (header_of f) g o) (before (sections_fault f) None)) ≡ r → fault f g o ≡ r
-      counts_pass e = long_passes (passes (counts_fault f) (before (pairs_fault f) (before (places_fault (header_of f) g o) (before (sections_fault f) None))) counts e)
-
-      pub pairs_refuse : {r : Refusal} → pairs_fault f ≡ Some r → fault f g o ≡ Some r
-      pairs_refuse e = counts_pass (refuses (pairs_fault f) (before (places_fault (header_of f) g o) (before (sections_fault f) None)) e)
-
-      module _ (pairs : pairs_fault f ≡ None) where
-        pairs_pass : {r : Option Refusal} → before (places_fault (header_of f) g o) (before (sections_fault f) None) ≡ r → fault f g o ≡ r
-        pairs_pass e = counts_pass (passes (pairs_fault f) (before (places_fault (header_of f) g o) (before (sections_fault f) None)) pairs e)
-
-        pub places_refuse : {r : Refusal} → places_fault (header_of f) g o ≡ Some r → fault f g o ≡ Some r
-        places_refuse e = pairs_pass (refuses (places_fault (header_of f) g o) (before (sections_fault f) None) e)
-
-        -- and last the sections, whatever they come to
-        pub sections_decide : {r : Option Refusal} → places_fault (header_of f) g o ≡ None → sections_fault f ≡ r → fault f g o ≡ r
-        sections_decide places e = pairs_pass (passes (places_fault (header_of f) g o) (before (sections_fault f) None) places (last (sections_fault f) e))
+  pub sections_decide : {r : Option Refusal} → places_fault (header_of f) g o ≡ None → sections_fault f ≡ r → fault f g o ≡ r
+  sections_decide places e = front_passes (passes (places_fault (header_of f) g o) _ places (last (sections_fault f) e))

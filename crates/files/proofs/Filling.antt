@@ -1,41 +1,74 @@
--- A loop that writes one element after another to the first places of a slice. `f` says what an element stands for.
-use Rattle.std.proofs.Common.{◌≡◌, ℕ, ◌+◌, ◌<◌, ◌≤◌, List, [], ◌∷◌, ◌++◌, map, length, take, drop, set, sym, refl, ap, ◌∙◌, ap₂, arith, length-set}
-use Rattle.std.proofs.lemmas.List.{append-nil, append_assoc, map_push, length-map, length-take-le, take_more_set, drop-set-lt, drop-drop}
+-- A list in lent places that takes what an iterator gives.
+use Rattle.std.proofs.Common.{◌≡◌, ℕ, ◌*◌, ◌≤◌, List, [], ◌∷◌, ◌++◌, map, length, take, drop, Some, None, Ok, Err, Option, option_map, Result, MatchResult, sym, refl, ap, ◌∙◌, ap₂, arith}
+use Rattle.std.proofs.lemmas.Iterator.{YieldsList, items_from_drains}
+use Rattle.std.proofs.lemmas.Iterator.Consumers.{YieldsList-so_far}
+use Rattle.std.proofs.lemmas.List.{length-map, length_push, length-take, map-id}
+use Rattle.std.specs.Iterator.{Yields, Drains}
+use Rattle.std.specs.List.{filter_map}
+use Rattle.model.specs.Net as net
+use Rattle.files.specs.Gates.{gate_of, record_of, entries_in}
+use Rattle.files.specs.Format.{known, gate_entries}
+use Rattle.files.specs.Lists.{Extends}
 
--- `n` places are written, and the elements `left` are still to come
-pub record Filling {X Y : Type 0} (f : X → Y) (all : List Y) (was is : List X) (n : ℕ) (left : List Y) : Type 0 where
-  pub done : map f (take n is) ++ left ≡ all
-  pub spare : drop n is ≡ drop n was
-  pub within : n ≤ length is
+module _ {S A : Type 0} {steps : S → Option A → S → Type 0} {s : S} {all : List A} (road : YieldsList steps (λ x. x) s all) where
+  -- where there are places for all, all were taken
+  all_taken : {E : Type 0} (r : Result (Unit {0}) E) (xs : List A) (n m : ℕ) → length all ≤ n → m ≡ length xs
+      → MatchResult r (λ _. Drains steps s xs) (λ _. (n ≤ m) × ((y : A) × (t : S) × Yields steps s (xs ++ y ∷ []) t)) → xs ≡ all
+  all_taken (Ok u) xs n m room e d = sym (map-id xs) ∙ items_from_drains xs (d.1.0, d.1.1, λ _. (d.0, d.1.2)) road
+  all_taken (Err r) xs n m room e d =
+      let more = xs ++ d.1.0 ∷ [] in
+      let a = ap length (YieldsList-so_far road more d.1.1 d.1.2) in
+      let b = length-map more (λ x. x) in
+      let c = length_push xs d.1.0 in
+      let f = length-take (length more) all in
+      absurd (omega (arith, a, b, c, f, d.0))
 
-module _ {X Y : Type 0} (f : X → Y) where
-  pub filling_none : (all : List Y) (was : List X) (n : ℕ) → n ≡ 0 → Filling f all was was n all
-  filling_none all was n e = record { done = ap (λ k. map f (take k was) ++ all) e; spare = refl; within = omega arith }
+  -- an empty list that takes them has them in its first places, where f reads ys, and the others stay
+  pub filled : {Y : Type 0} (f : A → Y) (ys : List Y) (was is : List A) (n m : ℕ) {E : Type 0} (r : Result (Unit {0}) E)
+      → (xs : List A) × Extends was n is m xs × MatchResult r (λ _. Drains steps s xs) (λ _. (length was ≤ m) × ((y : A) × (t : S) × Yields steps s (xs ++ y ∷ []) t)) → n ≡ 0
+      → map f all ≡ ys → length ys ≤ length was → (map f (take (length ys) is) ≡ ys) × (drop (length ys) is ≡ drop (length ys) was)
+  filled f ys was is n m r adds empty reads room =
+      let so = adds.1 in
+      let count = ap length (sym reads) ∙ length-map all f in
+      let taken = all_taken r adds.0 (length was) m (omega (arith, count)) (omega (arith, so.len)) adds.2 in
+      let long : length ys ≡ m = omega (arith, count, ap length taken, so.len) in (
+        ap (λ k. map f (take k is)) long ∙ ap (map f) (so.items ∙ ap (λ k. take k was ++ adds.0) empty ∙ taken) ∙ reads,
+        ap (λ k. drop k is) long ∙ so.spare ∙ ap (λ k. drop k was) (sym long),
+      )
 
-  -- x goes to the next place
-  pub filling_more : (all : List Y) (was is is' : List X) (n n' : ℕ) (y : Y) (ys left : List Y) (x : X) → Filling f all was is n ys → ys ≡ y ∷ left → f x ≡ y → n < length is
-      → is' ≡ set is n x → n' ≡ n + 1 → Filling f all was is' n' left
-  filling_more all was is is' n n' y ys left x so front e lt wrote longer =
-      record {
-        done =
-            ap₂ (λ xs k. map f (take k xs) ++ left) wrote longer ∙ ap (λ t. map f t ++ left) (take_more_set is n x lt) ∙ ap (λ t. t ++ left) (map_push f (take n is) x)
-            ∙ append_assoc (map f (take n is)) (f x ∷ []) left
-            ∙ ap (λ z. map f (take n is) ++ z ∷ left) e
-            ∙ ap (λ t. map f (take n is) ++ t) (sym front)
-            ∙ so.done;
-        spare =
-            ap₂ (λ xs k. drop k xs) wrote longer ∙ drop-set-lt (n + 1) is n x (omega arith) ∙ sym (drop-drop 1 n is) ∙ ap (drop 1) so.spare ∙ drop-drop 1 n was
-            ∙ ap (λ k. drop k was) (sym longer);
-        within = let h = ap length wrote ∙ length-set is n x in omega arith;
-      }
+gate_of-record_of : (g : net.Gate) → gate_of (record_of g) ≡ g
+gate_of-record_of (net.adds f s) = refl
+gate_of-record_of (net.shifts f s) = refl
+gate_of-record_of (net.maps f s) = refl
+gate_of-record_of (net.looks f s) = refl
 
-  module _ (all : List Y) (was is : List X) (n : ℕ) (so : Filling f all was is n []) where
-    pub filling_length : length all ≡ n
-    filling_length =
-        ap length (sym so.done ∙ append-nil (map f (take n is))) ∙ length-map (take n is) f ∙ length-take-le n is so.within
+-- the records of the entries of known kinds
+pub records_known : (es : List (Option net.Gate)) → map gate_of (filter_map (λ e. e) (map (option_map record_of) es)) ≡ known es
+records_known [] = refl
+records_known (None ∷ es) = records_known es
+records_known (Some g ∷ es) = ap₂ (λ x xs. x ∷ xs) (gate_of-record_of g) (records_known es)
 
-    pub filling_all : map f (take (length all) is) ≡ all
-    filling_all = ap (λ k. map f (take k is)) filling_length ∙ sym (append-nil (map f (take n is))) ∙ so.done
+-- the same of all entries
+pub records_entries : (es : List (Option net.Gate)) → map (option_map gate_of) (map (option_map record_of) es) ≡ es
+records_entries [] = refl
+records_entries (None ∷ es) = ap (λ xs. None ∷ xs) (records_entries es)
+records_entries (Some g ∷ es) = ap₂ (λ x xs. Some x ∷ xs) (gate_of-record_of g) (records_entries es)
 
-    pub filling_spare : drop (length all) is ≡ drop (length all) was
-    filling_spare = ap (λ k. drop k is) filling_length ∙ so.spare ∙ ap (λ k. drop k was) (sym filling_length)
+known_few : (es : List (Option net.Gate)) → length (known es) ≤ length es
+known_few [] = omega arith
+known_few (None ∷ es) = let h = known_few es in omega arith
+known_few (Some g ∷ es) = let h = known_few es in omega arith
+
+entries_few : (xs : List ℕ) → 5 * length (gate_entries xs) ≤ length xs
+entries_few [] = omega arith
+entries_few (k ∷ []) = omega arith
+entries_few (k ∷ a ∷ []) = omega arith
+entries_few (k ∷ a ∷ b ∷ []) = omega arith
+entries_few (k ∷ a ∷ b ∷ c ∷ []) = omega arith
+entries_few (k ∷ a ∷ b ∷ c ∷ d ∷ rest) = let h = entries_few rest in omega arith
+
+pub known_in_few : (xs : List ℕ) → 5 * length (known (gate_entries xs)) ≤ length xs
+known_in_few xs = omega (arith, known_few (gate_entries xs), entries_few xs)
+
+pub entries_in_few : (xs : List ℕ) → 5 * length (entries_in xs) ≤ length xs
+entries_in_few xs = omega (arith, length-map (gate_entries xs) (option_map record_of), entries_few xs)

@@ -92,10 +92,3 @@ module _ (f : List ℕ) (g o : ℕ) (e : fault f g o ≡ None) (within : InFile 
 
   pub outputs_counted : length (net_in f).outputs ≡ (header_of f).outputs
   outputs_counted = numbers_length (header_of f).outputs (section f outputs_at) (section_length f outputs_at within.4 ∙ lengths.4)
-
-  -- the number of gates, and of outputs, by the bytes of their sections
-  pub gates_in : (xs : List ℕ) → xs ≡ section f gates_at → length (known (gate_entries xs)) ≡ (header_of f).gates
-  gates_in xs is = ap (λ ys. length (known (gate_entries ys))) is ∙ gates_counted
-
-  pub outputs_in : (xs : List ℕ) → xs ≡ section f outputs_at → length (numbers xs) ≡ (header_of f).outputs
-  outputs_in xs is = ap (λ ys. length (numbers ys)) is ∙ outputs_counted

@@ -14,7 +14,7 @@ fn count(file: &[u8], k: usize, low: u16, high: u16) -> Result<u16, Refusal>
     ensures { Tested (count_fault file.now k low high) result (λ n. (n ≡ two file.now k) × (low ≤ n) × (n ≤ high)) }
 {
     let n = two_bytes(file, k);
-    if low <= n && n <= high {
+    if (low..=high).contains(&n) {
         Ok(n)
     } else {
         Err(Refusal::Limit(k))

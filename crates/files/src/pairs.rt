@@ -8,22 +8,25 @@ use crate::directory::Directory;
 use crate::header::Header;
 use refusals::Refusal;
 
-// The two-byte number at `k`, low byte first.
+// The two-byte number at `k`, low byte first. Functions of counts and pairs take the file and an offset, since the offset is the
+// figure of their refusal.
 pub(crate) fn two_bytes(file: &[u8], k: usize) -> u16
     requires { k + 2 ≤ length file.now }
     ensures { result ≡ two file.now k }
 {
-    file[k] as u16 + 256 * (file[k + 1] as u16)
+    u16::from_le_bytes([file[k], file[k + 1]])
 }
 
+// The four-byte number at `k`, low byte first.
 fn four_bytes(file: &[u8], k: usize) -> u32
     requires { k + 4 ≤ length file.now }
     ensures { result ≡ four file.now k }
 {
-    two_bytes(file, k) as u32 + 65536 * (two_bytes(file, k + 2) as u32)
+    u32::from_le_bytes([file[k], file[k + 1], file[k + 2], file[k + 3]])
 }
 
-// Offset and length of the section whose pair stands at `k`.
+// Offset and length of the section whose pair stands at `k`. A rule of the project asks for this form: an entry of the directory
+// is answered as a tuple of two `u32`.
 fn pair(file: &[u8], k: usize) -> (u32, u32)
     requires { k + 8 ≤ length file.now }
     ensures { (result.0 ≡ offset file.now k) × (result.1 ≡ len file.now k) }
@@ -65,16 +68,21 @@ impl Directory {
         requires counts { header.now ≡ header_of file.now }
         ensures { Tested (pairs_fault file.now) result (λ d. (d ≡ directory_of file.now) × InFile file.now × Lengths file.now) }
     {
-        let owners = placed(file, 14, 54, header.inputs as usize)?;
+        let owners = placed(file, 14, 54, usize::from(header.inputs))?;
         let tables = placed(
             file,
             22,
             section_end(owners),
-            header.tables as usize * header.size as usize,
+            usize::from(header.tables) * usize::from(header.size),
         )?;
-        let rows = placed(file, 30, section_end(tables), 8 * header.rows as usize)?;
-        let gates = placed(file, 38, section_end(rows), 5 * header.gates as usize)?;
-        let outputs = placed(file, 46, section_end(gates), 2 * header.outputs as usize)?;
+        let rows = placed(file, 30, section_end(tables), 8 * usize::from(header.rows))?;
+        let gates = placed(file, 38, section_end(rows), 5 * usize::from(header.gates))?;
+        let outputs = placed(
+            file,
+            46,
+            section_end(gates),
+            2 * usize::from(header.outputs),
+        )?;
         if section_end(outputs) > file.len() {
             return Err(Refusal::Layout(46));
         }

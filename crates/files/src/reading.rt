@@ -19,10 +19,10 @@ impl Header {
     fn test_places(&self, gate_places: usize, output_places: usize) -> Result<(), Refusal>
         ensures { Tested (places_fault self.now gate_places output_places) result (λ _. (self.now.gates ≤ gate_places) × (self.now.outputs ≤ output_places)) }
     {
-        if self.gates as usize > gate_places {
+        if usize::from(self.gates) > gate_places {
             return Err(Refusal::Places(6));
         }
-        if self.outputs as usize > output_places {
+        if usize::from(self.outputs) > output_places {
             return Err(Refusal::Places(12));
         }
         Ok(())
@@ -30,6 +30,7 @@ impl Header {
 }
 
 /// Tests a file as READ does, for so many gate places and output places, and answers its numbers.
+#[tactic(auto, using(crate::proofs::Chains::sections_decide), unfolding(crate::specs::Faults::fault))]
 pub fn survey(file: &[u8], gate_places: usize, output_places: usize) -> Result<Survey, Refusal>
     ensures { Tested (fault file.now gate_places output_places) result (λ s. Surveyed file.now s × InFile file.now × Lengths file.now × (s.header.gates ≤ gate_places) × (s.header.outputs ≤ output_places)) }
 {
@@ -53,6 +54,7 @@ pub fn survey(file: &[u8], gate_places: usize, output_places: usize) -> Result<S
 
 /// READ: tests the file, fills the first places with its gate records and output numbers, and answers the rest of it.
 /// A refusal leaves all places as they were.
+#[tactic(auto, using(crate::proofs::Passed::section_length, crate::proofs::Passed::gates_counted, crate::proofs::Passed::outputs_counted))]
 pub fn read<'a>(
     file: &'a [u8],
     gates: &mut [Gate],

@@ -7,17 +7,13 @@ use crate::pairs::section_start;
 pub fn front<T>(items: &[T], n: usize) -> &[T]
     ensures { (result.now ≡ take n items.now) × (length result.now ≤ n) }
 {
-    if n < items.len() { &items[0..n] } else { items }
+    items.get(..n).unwrap_or(items)
 }
 
 /// The bytes that a pair of offset and length gives of a file, as far as the file has them.
 pub fn section_of(file: &[u8], pair: (u32, u32)) -> &[u8]
     ensures { result.now ≡ take pair.1 (drop pair.0 file.now) }
 {
-    let start = section_start(pair);
-    if start < file.len() {
-        front(&file[start..file.len()], pair.1 as usize)
-    } else {
-        &file[0..0]
-    }
+    let from_start = file.get(section_start(pair)..).unwrap_or(&[]);
+    front(from_start, pair.1 as usize)
 }
