@@ -2,6 +2,7 @@
 use Rattle.std.proofs.Common.{◌≡◌, ℕ, zero, suc, ◌+◌, ◌*◌, ◌/◌, ◌<◌, ◌≤◌, Bool, true, false, cond, not, ◌&&◌, ◌||◌, ltb, leb, List, [], ◌∷◌, map, length, get_or, take, drop, Some, None, Option, sym, refl, ap, ◌∙◌, subst, mul-div_cancel, arith}
 use native.Mathlib.Nat.{mul-div_cancel_left}
 use Rattle.std.proofs.lemmas.List.{length-map, length-take-le}
+use Rattle.std.proofs.lemmas.Option.{none-some}
 use Rattle.std.proofs.lemmas.Bool.{ltb-true, leb-true, and_parts}
 use Rattle.refusals.specs.declared.Refusal.{Refusal}
 use Rattle.refusals.specs.declared.Refusal.TheVariants.{Limit, Places, Operand, Code, Absent}
@@ -22,15 +23,15 @@ use Rattle.circuits.specs.Made.{circuit_net}
 -- a test that refused nothing passed
 pub holds : (b : Bool) (r : Refusal) → unless b r ≡ None → b ≡ true
 holds true r e = refl
-holds false r e = let z : ◌≡◌ {A = ℕ} 0 1 = cc in absurd (omega arith)
+holds false r e = absurd (none-some r (sym e))
 
 none_found : (why : ℕ → Refusal) (o : Option ℕ) → found why o ≡ None → o ≡ None
 none_found why None e = refl
-none_found why (Some o) e = let z : ◌≡◌ {A = ℕ} 0 1 = cc in absurd (omega arith)
+none_found why (Some o) e = absurd (none-some (why o) (sym e))
 
 goes_on : (b : Bool) (rest : Option ℕ) (o : ℕ) → cond b rest (Some o) ≡ None → (b ≡ true) × (rest ≡ None)
 goes_on true rest o e = (refl, e)
-goes_on false rest o e = let z : ◌≡◌ {A = ℕ} 0 1 = cc in absurd (omega arith)
+goes_on false rest o e = absurd (none-some o (sym e))
 
 one_more : (x : ℕ) (xs : List ℕ) (high : ℕ) → x < high → Below high xs → Below high (x ∷ xs)
 one_more x xs high h t zero l = h

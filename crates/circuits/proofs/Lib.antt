@@ -1,2 +1,4 @@
 pub mod Kept
-pub mod Validity
+pub mod Gates
+pub mod Chunks
+pub mod Looked

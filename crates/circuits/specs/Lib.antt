@@ -1,3 +1,4 @@
 pub mod Nets
 pub mod Circuits
 pub mod Made
+pub mod Looked

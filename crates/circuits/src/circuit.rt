@@ -1,18 +1,10 @@
 // A circuit over lent sections, and what every circuit keeps.
 ghost use Rattle.std.specs.Prelude.{◌≡◌, [], ◌∷◌};
-ghost use Rattle.model.specs.Net.{Sized, Counted, Whole, Coded, Named, Wired, Few, look_count};
+ghost use Rattle.model.specs.Net.{Valid, look_count};
 ghost use Rattle.files.specs.Gates.{gates_of};
 ghost use Rattle.circuits.specs.Nets.{net_of};
 
 use files::Gate;
-
-static OWNER: [u8; 1] = [0];
-
-static WIRE: [u16; 1] = [0];
-
-static NO_BYTES: [u8; 0] = [];
-
-static NO_GATES: [Gate; 0] = [];
 
 /// A circuit that passed every test. Its sections are lent, and what the tests found stays true of them.
 #[derive(Clone, Copy)]
@@ -25,13 +17,7 @@ pub struct Circuit<'a> {
     pub(crate) rows: &'a [u8],
     pub(crate) gates: &'a [Gate],
     pub(crate) outputs: &'a [u16],
-    ghost sized: { Sized (net_of size parties owners.now tables.now rows.now gates.now outputs.now) },
-    ghost counted: { Counted (net_of size parties owners.now tables.now rows.now gates.now outputs.now) },
-    ghost whole: { Whole (net_of size parties owners.now tables.now rows.now gates.now outputs.now) },
-    ghost coded: { Coded (net_of size parties owners.now tables.now rows.now gates.now outputs.now) },
-    ghost named: { Named (net_of size parties owners.now tables.now rows.now gates.now outputs.now) },
-    ghost wired: { Wired (net_of size parties owners.now tables.now rows.now gates.now outputs.now) },
-    ghost few: { Few (net_of size parties owners.now tables.now rows.now gates.now outputs.now) },
+    ghost valid: { Valid (net_of size parties owners.now tables.now rows.now gates.now outputs.now) },
     ghost looked: { looks ≡ look_count (gates_of gates.now) },
 }
 
@@ -44,11 +30,11 @@ impl<'a> Circuit<'a> {
             size: 2,
             parties: 2,
             looks: 0,
-            owners: &OWNER,
-            tables: &NO_BYTES,
-            rows: &NO_BYTES,
-            gates: &NO_GATES,
-            outputs: &WIRE,
+            owners: &[0],
+            tables: &[],
+            rows: &[],
+            gates: &[],
+            outputs: &[0],
         }
     }
 }

@@ -1,18 +1,9 @@
 // How much a circuit has of each part.
 ghost use Rattle.std.specs.Prelude.{◌≡◌, ◌≤◌, length};
 ghost use Rattle.model.specs.Net.{inputs, wires, table_count, row_count, look_count};
-ghost use Rattle.files.specs.Gates.{gates_of};
 ghost use Rattle.circuits.specs.Circuits.{net};
 
 use crate::circuit::Circuit;
-use files::Gate;
-
-// How many gates the records stand for: one each.
-fn count(gates: &[Gate]) -> usize
-    ensures { result ≡ length (gates_of gates.now) }
-{
-    gates.len()
-}
 
 impl Circuit<'_> {
     /// How many codes there are.
@@ -52,7 +43,7 @@ impl Circuit<'_> {
         ensures is { result ≡ length (net self.now).gates }
         ensures within { result ≤ 4096 }
     {
-        count(self.gates)
+        self.gates.len()
     }
 
     /// How many wires there are.
@@ -76,7 +67,7 @@ impl Circuit<'_> {
         ensures is { result ≡ table_count (net self.now) }
         ensures within { result ≤ 16 }
     {
-        self.tables.len() / self.size as usize
+        self.tables.len() / usize::from(self.size)
     }
 
     /// How many rows there are.

@@ -1,12 +1,17 @@
 -- The blocks of all parties, by party.
-use Rattle.std.proofs.Common.{◌≡◌, ℕ, ◌+◌, ◌-◌, ◌*◌, ◌<◌, List, [], ◌∷◌, length, get_or, take, drop, sym, ◌∙◌, arith}
+use Rattle.std.proofs.Common.{◌≡◌, ℕ, suc, ◌+◌, ◌-◌, ◌*◌, ◌/◌, ◌<◌, ◌≤◌, List, [], ◌∷◌, length, get_or, take, drop, sym, ap, ◌∙◌, ap₂, suc-mul, arith}
 use Rattle.std.proofs.lemmas.List.{get_or_append_left, get_or_push}
-use Rattle.groups.specs.Group.{Group}
-use Rattle.model.specs.Net.{Net}
-use Rattle.model.specs.Deal.{columns}
+use Rattle.std.proofs.lemmas.Nat.{div-mul-add, le-div}
+use Rattle.groups.specs.Group.{Group, Laws, Codes}
+use Rattle.model.specs.Words.{Below}
+use Rattle.model.specs.Net.{Net, Valid}
+use Rattle.model.specs.Deal.{columns, owed}
 use Rattle.model.specs.Tape.{pieces}
 use Rattle.dealer.specs.Parts.{last_block, blocks}
-use Rattle.dealer.proofs.Pieces.{pieces_length, piece_is}
+use Rattle.model.proofs.Listed.{code_at}
+use Rattle.model.proofs.Wires.{codes_of}
+use Rattle.model.proofs.Masks.{owed_code}
+use Rattle.dealer.proofs.Pieces.{pieces_length, piece_is, lacking, cut}
 
 module _ (G : Group) (net : Net) (m dealt : List ℕ) (p : ℕ) where
   pub block_piece : p + 1 < net.parties → take (columns net) (drop (p * columns net) dealt) ≡ get_or (blocks G net m dealt) p []
@@ -20,3 +25,30 @@ module _ (G : Group) (net : Net) (m dealt : List ℕ) (p : ℕ) where
   block_last h =
       let front = pieces (net.parties - 1) (columns net) dealt in
       sym (get_or_push front (last_block G net m front) [] p (pieces_length (net.parties - 1) (columns net) dealt ∙ omega arith))
+
+  -- the party's piece of what was dealt, which only the last one lacks, as an iterator over the pieces gives them
+  module _ (q size : ℕ) (rest : List ℕ) (whole : rest ≡ dealt) (width : size ≡ columns net) (place : q ≡ p) (some : 0 < size) (long : length dealt ≡ (net.parties - 1) * columns net) where
+    count : length rest / size ≡ net.parties - 1
+    count = ap₂ (λ xs n. length xs / n) whole width ∙ ap (λ n. n / columns net) (long ∙ omega arith) ∙ div-mul-add (net.parties - 1) (columns net) 0 (omega arith)
+
+    pub piece_found : (piece : List ℕ) → q * size + size ≤ length rest → piece ≡ take size (drop (q * size) rest) → piece ≡ get_or (blocks G net m dealt) p []
+    piece_found piece room is =
+        let early : suc q ≤ length rest / size = le-div (suc q) (length rest) size some (omega (arith, suc-mul q size)) in
+        is ∙ ap (λ xs. take size (drop (q * size) xs)) whole ∙ ap₂ (λ n k. take n (drop (k * n) dealt)) width place ∙ block_piece (omega (arith, count))
+
+    pub piece_lacks : p < net.parties → (n : ℕ) → n ≡ length rest / size → n ≤ q → last_block G net m (pieces (net.parties - 1) (columns net) dealt) ≡ get_or (blocks G net m dealt) p []
+    piece_lacks party n all few = block_last (omega (arith, count))
+
+module _ (G : Group) (laws : Laws G) (net : Net) (valid : Valid net) (same : G.size ≡ net.size) (m : List ℕ) where
+  -- what is owed under masks that are codes is codes
+  pub owed_codes : Below net.size m → Codes G (owed G net m)
+  owed_codes c k l = owed_code G laws net valid same m (code_at G laws m (codes_of G laws net valid same m c)) k
+
+  -- the block that lacks the pieces of the others is the last one
+  pub last_lacks : (dealt owing block : List ℕ) → length dealt ≡ (net.parties - 1) * columns net → owing ≡ owed G net m → length owing ≡ columns net
+      → block ≡ lacking G (length owing) owing (cut (length owing) dealt) → block ≡ last_block G net m (pieces (net.parties - 1) (columns net) dealt)
+  last_lacks dealt owing block long is wide value =
+      let some : 0 < columns net = omega (arith, valid.counted) in
+      let count : length dealt / columns net ≡ net.parties - 1 = ap (λ n. n / columns net) (long ∙ omega arith) ∙ div-mul-add (net.parties - 1) (columns net) 0 some in
+      value ∙ ap (λ n. lacking G n owing (cut n dealt)) wide
+      ∙ ap₂ (λ xs n. lacking G (columns net) xs (pieces n (columns net) dealt)) is count

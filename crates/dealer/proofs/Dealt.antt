@@ -1,7 +1,7 @@
 -- The deal of a tape, as it is computed.
-use Rattle.std.proofs.Common.{◌≡◌, ℕ, ◌-◌, ◌<◌, List, [], ◌++◌, length, get_or, take, drop, sym, refl, ap, ◌∙◌, arith}
+use Rattle.std.proofs.Common.{◌≡◌, ℕ, ◌+◌, ◌-◌, ◌<◌, List, [], ◌++◌, length, get_or, take, drop, sym, refl, ap, ◌∙◌, subst, arith}
 use borrow.Rule.Slice.PartMut.{put_mid}
-use Rattle.std.proofs.lemmas.List.{append-nil, drop_all, length-drop, length-take-le, get_or-take, ext_get_or}
+use Rattle.std.proofs.lemmas.List.{append-nil, drop_all, length-drop, length-take-le, get_or-take, get_or-drop, ext_get_or}
 use Rattle.groups.specs.Group.{Group, Laws}
 use Rattle.model.specs.Words.{at, Below}
 use Rattle.model.specs.Net.{Net, Valid, inputs, look_total, flow}
@@ -11,6 +11,10 @@ use Rattle.model.proofs.Masks.{masks_by, mask_code, masks_length, mask_input}
 use Rattle.model.proofs.Tapes.{one_to_one}
 use Rattle.model.proofs.Wires.{codes_of}
 use Rattle.dealer.specs.Parts.{Ready, blocks}
+
+-- the end of a list
+pub below_drop : (q n : ℕ) (xs : List ℕ) → Below q xs → Below q (drop n xs)
+below_drop q n xs c k l = subst (λ x. x < q) (sym (get_or-drop n xs k 0)) (c (n + k) (omega (arith, length-drop n xs)))
 
 module _ (G : Group) (net : Net) (tape : List ℕ) where
   pub masks_dealt : masks G net (deal_of G net tape) ≡ flow G net (masking (take (look_total net) (drop (inputs net) tape))) (take (inputs net) tape)

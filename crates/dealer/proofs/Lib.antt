@@ -1,6 +1,5 @@
 pub mod Owned
 pub mod Remainders
-pub mod Gates
 pub mod Places
 pub mod Pieces
 pub mod Tables

@@ -1,5 +1,5 @@
 -- The lengths of what a dealer reads and writes, and where a part has the mask of a wire.
-use Rattle.std.specs.Prelude.{ℕ, ◌+◌, cond, ◌&&◌, take, Some, None, Option, ◌==◌, nat_lt}
+use Rattle.std.specs.Prelude.{ℕ, ◌+◌, ◌&&◌, if◌then◌else◌, take, Some, None, Option, ◌==◌, nat_lt}
 use Rattle.refusals.specs.declared.Refusal.{Refusal}
 use Rattle.refusals.specs.declared.Refusal.TheVariants.{Party}
 use Rattle.refusals.specs.Tests.{unless}
@@ -17,4 +17,4 @@ place_length net h = part_length net h + wires net
 
 -- where the part of h has the mask of wire w, if w is an input of h: past the masks of h's inputs before w
 abbrev pub slot_of : Net → ℕ → ℕ → Option ℕ
-slot_of net h w = cond (nat_lt w (inputs net) && at net.owners w == h) (Some (owned h (take w net.owners))) None
+slot_of net h w = (if nat_lt w (inputs net) && at net.owners w == h then Some (owned h (take w net.owners)) else None)

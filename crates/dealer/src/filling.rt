@@ -4,6 +4,7 @@ ghost use Rattle.refusals.specs.Tests.{Tested};
 ghost use Rattle.groups.specs.Group.{Codes};
 ghost use Rattle.dealer.specs.Fills.{filled, fill_fault};
 
+use crate::changes::change_each;
 use groups::masks::MaskGroup;
 use refusals::Refusal;
 
@@ -19,8 +20,6 @@ pub fn fill<G: MaskGroup>(group: &G, random: &[u8], tape: &mut [u8]) -> Result<(
         return Err(Refusal::Length);
     }
     let size = group.size();
-    for (i, byte) in random.iter().enumerate() {
-        tape[i] = (*byte as u16 % size) as u8;
-    }
+    change_each(tape, random, |_, byte| (u16::from(byte) % size) as u8);
     Ok(())
 }

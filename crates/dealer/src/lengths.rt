@@ -1,7 +1,7 @@
 // How long tapes, parts and places are, so that buffers can be made for them.
 ghost use Rattle.std.specs.Prelude.{◌≡◌, ◌+◌, ◌*◌, ◌<◌, ◌≤◌, length, IfSome};
 ghost use Rattle.refusals.specs.Tests.{Tested};
-ghost use Rattle.model.specs.Deal.{columns, owned as owned_by, part_length};
+ghost use Rattle.model.specs.Deal.{cells, columns, owned as owned_by, part_length};
 ghost use Rattle.model.specs.Tape.{tape_length};
 ghost use Rattle.circuits.specs.Circuits.{net};
 ghost use Rattle.dealer.specs.Lengths.{party_fault, place_length, slot_of};
@@ -9,41 +9,44 @@ ghost use Rattle.dealer.specs.Lengths.{party_fault, place_length, slot_of};
 use circuits::Circuit;
 use refusals::Refusal;
 
-// How many numbers a block has: a cell for each LOOK gate and code, and one for each output.
+// How many cells a block has: one for each LOOK gate and code.
+pub(crate) fn cell_count(circuit: &Circuit<'_>) -> usize
+    ensures is { result ≡ cells (net circuit.now) }
+    ensures within { result ≤ 240 * 256 }
+{
+    usize::from(circuit.look_count()) * usize::from(circuit.size())
+}
+
+// How many numbers a block has: its cells, and one for each output.
 pub(crate) fn column_count(circuit: &Circuit<'_>) -> usize
     ensures is { result ≡ columns (net circuit.now) }
     ensures within { result ≤ 240 * 256 + 64 }
 {
-    circuit.look_count() as usize * circuit.size() as usize + circuit.output_count()
+    cell_count(circuit) + circuit.output_count()
 }
 
 // How many of the input wires are `party`'s.
+#[tactic(auto, using(crate::proofs::Owned::owned_count))]
 pub(crate) fn owned(owners: &[u8], party: u8) -> usize
     ensures is { result ≡ owned_by party owners.now }
     ensures within { result ≤ length owners.now }
 {
-    let mut count = 0;
-    for owner in owners {
-        if *owner == party {
-            count += 1;
-        }
-    }
-    count
+    owners.iter().filter(|owner| **owner == party).count()
 }
 
 /// How many numbers a tape has.
 pub fn tape_length(circuit: &Circuit<'_>) -> usize
     ensures { result ≡ tape_length (net circuit.now) }
 {
-    let others = circuit.parties() as usize - 1;
-    circuit.input_count() + (circuit.look_count() as usize + others * column_count(circuit))
+    let others = usize::from(circuit.parties()) - 1;
+    circuit.input_count() + (usize::from(circuit.look_count()) + others * column_count(circuit))
 }
 
 /// How many numbers the part of `party` has, or `Refusal::Party` if there is no such party.
 pub fn part_length(circuit: &Circuit<'_>, party: u8) -> Result<usize, Refusal>
     ensures { Tested (party_fault (net circuit.now) party) result (λ n. n ≡ part_length (net circuit.now) party) }
 {
-    if party as u16 >= circuit.parties() {
+    if u16::from(party) >= circuit.parties() {
         return Err(Refusal::Party);
     }
     Ok(owned(circuit.owners(), party) + column_count(circuit))
@@ -54,22 +57,19 @@ pub fn part_length(circuit: &Circuit<'_>, party: u8) -> Result<usize, Refusal>
 pub fn place_length(circuit: &Circuit<'_>, party: u8) -> Result<usize, Refusal>
     ensures { Tested (party_fault (net circuit.now) party) result (λ n. n ≡ place_length (net circuit.now) party) }
 {
-    if party as u16 >= circuit.parties() {
-        return Err(Refusal::Party);
-    }
-    Ok(owned(circuit.owners(), party) + column_count(circuit) + circuit.wire_count())
+    Ok(part_length(circuit, party)? + circuit.wire_count())
 }
 
 /// Where the part of `party` has the mask of `wire`, or `None` if that is no input wire of `party`.
+#[tactic(auto, using(crate::proofs::Owned::owned_below))]
 pub fn slot(circuit: &Circuit<'_>, party: u8, wire: u16) -> Option<usize>
     ensures is { result ≡ slot_of (net circuit.now) party wire }
     ensures within { IfSome result (λ s. s < owned_by party (net circuit.now).owners) }
 {
     let owners = circuit.owners();
-    let place = wire as usize;
-    if place < owners.len() && owners[place] == party {
-        Some(owned(&owners[0..place], party))
-    } else {
-        None
+    let place = usize::from(wire);
+    match owners.get(place) {
+        Some(owner) if *owner == party => Some(owned(&owners[..place], party)),
+        _ => None,
     }
 }

@@ -3,11 +3,13 @@
 #![tactic(auto)]
 
 mod blocks;
+mod cells;
+mod changes;
 mod filling;
 mod lawful;
 mod lengths;
+mod masked;
 mod masks;
-mod owed;
 mod own;
 mod parts;
 mod shares;

@@ -7,72 +7,73 @@ ghost use Rattle.model.specs.Tape.{tape_length, deal_of};
 ghost use Rattle.circuits.specs.Circuits.{net};
 ghost use Rattle.dealer.specs.Parts.{Ready, part_fault};
 
-use crate::blocks::write_block;
-use crate::lengths::{part_length, tape_length};
-use crate::masks::mask_gates;
+use crate::lengths::{column_count, part_length, tape_length};
+use crate::masked::Masked;
+use crate::masks::Masking;
 use crate::own::copy_own;
-use circuits::Circuit;
+use circuits::{Circuit, Over};
 use groups::codes::are_codes;
 use groups::masks::MaskGroup;
 use refusals::Refusal;
 
-// What PART asks, before anything is written.
-fn test<G: MaskGroup>(
-    group: &G,
-    circuit: &Circuit<'_>,
+// What PART asks, before anything is written. `clear` and SHIFT ask the like of other lists: what is the same is in `Over::new`,
+// `part_length` and `are_codes`.
+fn test<'a, G: MaskGroup>(
+    group: &'a G,
+    circuit: &'a Circuit<'a>,
     tape: &[u8],
     party: u8,
     mask_places: usize,
     part_places: usize,
-) -> Result<(), Refusal>
-    ensures { Tested (part_fault (G.means group.now) (net circuit.now) tape.now party mask_places part_places) result (λ _. Ready (G.means group.now) (net circuit.now) tape.now party mask_places part_places) }
+) -> Result<Over<'a, G>, Refusal>
+    ensures { Tested (part_fault (G.means group.now) (net circuit.now) tape.now party mask_places part_places) result (λ o. (o.group.now ≡ group.now) × (o.circuit.now ≡ circuit.now) × Ready (G.means group.now) (net circuit.now) tape.now party mask_places part_places) }
 {
-    if group.size() != circuit.size() {
-        return Err(Refusal::Counts);
-    }
-    let long = part_length(circuit, party)?;
+    let over = Over::new(group, circuit)?;
+    let length = part_length(circuit, party)?;
     if tape.len() != tape_length(circuit)
         || mask_places != circuit.wire_count()
-        || part_places != long
+        || part_places != length
     {
         return Err(Refusal::Length);
     }
     if !are_codes(tape, circuit.size()) {
         return Err(Refusal::NotCode);
     }
-    Ok(())
+    Ok(over)
 }
 
 // Writes the masks of all wires.
-fn write_masks<G: MaskGroup>(group: &G, circuit: &Circuit<'_>, tape: &[u8], masks: &mut [u8])
-    requires tape { length tape.now ≡ tape_length (net circuit.now) }
-    requires places { length masks.old ≡ wires (net circuit.now) }
-    ensures { masks.new ≡ masks_of (G.means group.now) (net circuit.now) (deal_of (G.means group.now) (net circuit.now) tape.now) }
+fn write_masks<G: MaskGroup>(over: &Over<'_, G>, tape: &[u8], masks: &mut [u8])
+    requires tape { length tape.now ≡ tape_length (net over.now.circuit.now) }
+    requires places { length masks.old ≡ wires (net over.now.circuit.now) }
+    ensures { masks.new ≡ masks_of (G.means over.now.group.now) (net over.now.circuit.now) (deal_of (G.means over.now.group.now) (net over.now.circuit.now) tape.now) }
 {
-    let inputs = circuit.input_count();
-    let end = inputs + circuit.look_count() as usize;
-    masks[0..inputs].copy_from_slice(&tape[0..inputs]);
-    mask_gates(group, circuit, &tape[inputs..end], masks);
+    let inputs = over.circuit.input_count();
+    let end = inputs + usize::from(over.circuit.look_count());
+    masks[..inputs].copy_from_slice(&tape[..inputs]);
+    let looks = &tape[inputs..end];
+    over.flow(&Masking { looks }, masks);
 }
 
 // Writes the part of `party`: the masks of its own inputs, then its block.
-fn write_part<G: MaskGroup>(
-    group: &G,
-    circuit: &Circuit<'_>,
+fn write_part<'a, G: MaskGroup>(
+    over: &'a Over<'a, G>,
     tape: &[u8],
     party: u8,
-    masks: &[u8],
+    masks: &'a [u8],
     part: &mut [u8],
 )
-    requires ready { Ready (G.means group.now) (net circuit.now) tape.now party (length masks.now) (length part.old) }
-    requires masks { masks.now ≡ masks_of (G.means group.now) (net circuit.now) (deal_of (G.means group.now) (net circuit.now) tape.now) }
-    ensures { part.new ≡ part_of (net circuit.now) party (deal_of (G.means group.now) (net circuit.now) tape.now) }
+    requires ready { Ready (G.means over.now.group.now) (net over.now.circuit.now) tape.now party (length masks.now) (length part.old) }
+    requires masks { masks.now ≡ masks_of (G.means over.now.group.now) (net over.now.circuit.now) (deal_of (G.means over.now.group.now) (net over.now.circuit.now) tape.now) }
+    ensures { part.new ≡ part_of (net over.now.circuit.now) party (deal_of (G.means over.now.group.now) (net over.now.circuit.now) tape.now) }
 {
+    let circuit = over.circuit;
     let inputs = circuit.input_count();
-    let own = copy_own(circuit.owners(), &masks[0..inputs], party, part);
-    let dealt = &tape[inputs + circuit.look_count() as usize..tape.len()];
-    let end = part.len();
-    write_block(group, circuit, masks, dealt, party, &mut part[own..end]);
+    copy_own(circuit.owners(), &masks[..inputs], party, part);
+    let own = part.len() - column_count(circuit);
+    let dealt = &tape[inputs + usize::from(circuit.look_count())..];
+    let masked = Masked { over, masks };
+    masked.write_block(dealt, party, &mut part[own..]);
 }
 
 /// PART: from a tape, the mask of every wire and the part of `party`, whose deal is lawful.
@@ -92,8 +93,8 @@ pub fn deal_part<G: MaskGroup>(
     ensures tested { Tested (part_fault (G.means group.now) (net circuit.now) tape.now party (length masks.old) (length part.old)) result (λ _. (masks.new ≡ masks_of (G.means group.now) (net circuit.now) (deal_of (G.means group.now) (net circuit.now) tape.now)) × (part.new ≡ part_of (net circuit.now) party (deal_of (G.means group.now) (net circuit.now) tape.now)) × Lawful (G.means group.now) (net circuit.now) (deal_of (G.means group.now) (net circuit.now) tape.now)) }
     ensures kept { OnErr result ((masks.new ≡ masks.old) × (part.new ≡ part.old)) }
 {
-    test(group, circuit, tape, party, masks.len(), part.len())?;
-    write_masks(group, circuit, tape, masks);
-    write_part(group, circuit, tape, party, masks, part);
+    let over = test(group, circuit, tape, party, masks.len(), part.len())?;
+    write_masks(&over, tape, masks);
+    write_part(&over, tape, party, masks, part);
     Ok(())
 }

@@ -1,25 +1,12 @@
-use Rattle.std.proofs.Common.{◌≡◌, ◌<◌, ◌≤◌, length, sym, ap, ◌∙◌, subst, arith}
-use Rattle.std.proofs.lemmas.Bool.{eq-eqb}
-use Rattle.refusals.specs.declared.Refusal.TheVariants.{Length}
-use Rattle.refusals.specs.Tests.{unless}
+use Rattle.std.proofs.Common.{◌≡◌, ◌%◌, sym, ap, ◌∙◌, subst, arith, rules}
 use Rattle.groups.specs.Group.{Codes}
-use Rattle.dealer.specs.Fills.{filled}
-use Rattle.dealer.proofs.Remainders.{filled_codes, filled_more, filled_all}
+use Rattle.model.specs.Words.{at}
+use Rattle.dealer.proofs.Remainders.{filled_is, filled_codes}
 use Rattle.dealer.proofs.filling.fill.Goals as goal
 
-pub loop-i-preserved : goal.loop-i-preserved
-loop-i-preserved g c =
-    let room : c.loop-i.i < length c.loop-i.tape = omega arith in
-    filled_more c.size-size.result c.args.random.now c.loop-i.tape c.loop-i.i c.loop-i-test.true room c.loop-i.invariant
-
-pub returns : goal.returns
-returns g c =
+pub returns-clause-tested : goal.returns-clause-tested
+returns-clause-tested g c =
     let G = g.G.MaskGroup.means c.args.group.now in
     let bytes = c.args.random.now in
-    let done : length c.loop-i.tape ≤ c.loop-i.i = omega arith in
-    let same : length bytes ≡ length c.args.tape.now = omega arith in
-    let is = filled_all c.size-size.result bytes c.loop-i.tape c.loop-i.i c.loop-i-test.false done c.loop-i.invariant ∙ ap (λ q. filled q bytes) c.size-size.ensures in
-    record {
-      tested = (ap (λ b. unless b Length) (eq-eqb (length bytes) (length c.args.tape.now) same), (is, subst (Codes G) (sym is) (filled_codes G (g.met.G.MaskGroup.lawful c.args.group.now) bytes)));
-      kept = tt;
-    }
+    let is = filled_is G.size bytes c.change_each.new.places (omega arith) (λ k l. let e = c.change_each.ensures k (omega arith) in let so : at c.change_each.new.places k ≡ at bytes k % c.size-size.result = search rules in so ∙ ap (λ q. at bytes k % q) c.size-size.ensures) in
+    (search arith, (is, subst (Codes G) (sym is) (filled_codes G (g.met.G.MaskGroup.lawful c.args.group.now) bytes)))

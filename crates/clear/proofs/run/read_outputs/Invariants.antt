@@ -1,6 +1,0 @@
-use Rattle.std.proofs.Common.{◌≡◌, map, take}
-use Rattle.model.specs.Words.{at}
-use Rattle.clear.proofs.run.read_outputs.Given as goal
-
-abbrev pub invariant-loop-i : goal.invariant-loop-i
-invariant-loop-i l = take l.i l.outputs ≡ map (at l.wires) (take l.i l.wire-items)
