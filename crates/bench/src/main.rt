@@ -11,12 +11,8 @@ use std::alloc::{AllocError, Global};
 use std::env;
 use std::time::Instant;
 
-const NO_GATE: Gate = Gate {
-    kind: Kind::Add,
-    first: 0,
-    second: 0,
-};
-
+// Written here, since a program has nothing of what the tests are made of.
+//
 // A file of 256 codes with one input, one table and `gates` gates, of which every seventeenth is a LOOK and the others ADD.
 fn circuit_file(heap: Global, parties: u16, gates: u16) -> Result<Vec<u8>, AllocError> {
     let mut f = Vec::new(heap);
@@ -28,12 +24,16 @@ fn circuit_file(heap: Global, parties: u16, gates: u16) -> Result<Vec<u8>, Alloc
         f.extend_from_slice(&n.to_le_bytes())?;
     }
     f.push(0)?;
-    for n in 0..256u16 {
-        f.push((n % 256) as u8)?;
+    for n in 0..=255u8 {
+        f.push(n)?;
     }
     for k in 0..gates {
-        let kind = if k % 17 == 16 && k < 4080 { 3 } else { 0 };
-        f.extend_from_slice(&[kind, 0, 0, 0, 0])?;
+        let kind = if k % 17 == 16 && k < 4080 {
+            Kind::Look
+        } else {
+            Kind::Add
+        };
+        f.extend_from_slice(&[kind as u8, 0, 0, 0, 0])?;
     }
     f.extend_from_slice(&[0, 0])?;
     Ok(f)
@@ -48,7 +48,7 @@ fn count_looks(file: &[u8], records: &mut [Gate]) -> Result<u16, Refusal> {
 fn time_read(rt: &HostRuntime, gates: u16) -> anyhow::Result<()> {
     let heap = rt.alloc();
     let file = circuit_file(heap, 2, gates)?;
-    let mut records = vec![in heap; NO_GATE; 4096]?;
+    let mut records = vec![in heap; Gate::default(); 4096]?;
     let start = Instant::now(rt)?;
     let mut looks = 0u64;
     for _ in 0..1000 {
@@ -61,30 +61,23 @@ fn time_read(rt: &HostRuntime, gates: u16) -> anyhow::Result<()> {
     Ok(())
 }
 
-// PART for every party in turn, over 256 codes.
-fn time_parts<'a>(
-    rt: &HostRuntime,
-    file: &'a [u8],
-    gates: &'a [Gate],
-    outputs: &'a [u16],
-) -> anyhow::Result<()> {
+// PART for the first party and for the last, over 256 codes.
+fn time_parts(rt: &HostRuntime, circuit: &Circuit<'_>) -> anyhow::Result<()> {
     let heap = rt.alloc();
-    let mut circuit = Circuit::single();
-    circuit.replace(file, gates, outputs)?;
     let group = Xor::new(256)?;
-    let mut tape = vec![in heap; 0u8; tape_length(&circuit)]?;
+    let mut tape = vec![in heap; 0u8; tape_length(circuit)]?;
     for (i, b) in tape.as_mut_slice().iter_mut().enumerate() {
         *b = (i % 251) as u8;
     }
     let mut masks = vec![in heap; 0u8; circuit.wire_count()]?;
     let looks = circuit.look_count();
     for party in [0, 7] {
-        let mut part = vec![in heap; 0u8; part_length(&circuit, party)?]?;
+        let mut part = vec![in heap; 0u8; part_length(circuit, party)?]?;
         let start = Instant::now(rt)?;
         for _ in 0..100 {
             deal_part(
                 &group,
-                &circuit,
+                circuit,
                 tape.as_slice(),
                 party,
                 masks.as_mut_slice(),
@@ -103,7 +96,7 @@ fn time_parts<'a>(
 fn time_part(rt: &HostRuntime) -> anyhow::Result<()> {
     let heap = rt.alloc();
     let file = circuit_file(heap, 8, 4096)?;
-    let mut records = vec![in heap; NO_GATE; 4096]?;
+    let mut records = vec![in heap; Gate::default(); 4096]?;
     let mut outputs = vec![in heap; 0u16; 1]?;
     let contents = read(
         file.as_slice(),
@@ -112,26 +105,54 @@ fn time_part(rt: &HostRuntime) -> anyhow::Result<()> {
     )?;
     let found = contents.looks;
     println!(rt; "a circuit of 4096 gates, {found} of them LOOK")?;
-    time_parts(rt, file.as_slice(), records.as_slice(), outputs.as_slice())
+    let circuit = Circuit::new(file.as_slice(), records.as_slice(), outputs.as_slice())?;
+    time_parts(rt, &circuit)
+}
+
+// What can be measured.
+#[derive(Clone, Copy, PartialEq, Eq, Debug)]
+enum Figures {
+    Read,
+    Part,
+}
+
+impl Figures {
+    // The figures that a word asks for.
+    fn named(word: &str) -> Option<Figures> {
+        // The words of a command line are few and known.
+        match word {
+            "read" => Some(Figures::Read),
+            "part" => Some(Figures::Part),
+            _ => None,
+        }
+    }
+
+    fn measure(self, rt: &HostRuntime) -> anyhow::Result<()> {
+        match self {
+            Figures::Read => {
+                for gates in [1024, 2048, 4096] {
+                    time_read(rt, gates)?;
+                }
+                Ok(())
+            }
+            Figures::Part => time_part(rt),
+        }
+    }
 }
 
 fn run(rt: &HostRuntime) -> anyhow::Result<()> {
-    let mut asked = false;
+    let mut asked = Vec::new(rt.alloc());
     for word in env::args(rt)?.skip(1) {
-        if word.as_str() == "read" {
-            asked = true;
-            time_read(rt, 1024)?;
-            time_read(rt, 2048)?;
-            time_read(rt, 4096)?;
-        }
-        if word.as_str() == "part" {
-            asked = true;
-            time_part(rt)?;
+        if let Some(figures) = Figures::named(word.as_str()) {
+            asked.push(figures)?;
         }
     }
-    if !asked {
+    if asked.is_empty() {
         println!(rt; "bench read: times READ on files of 1024, 2048 and 4096 gates")?;
         println!(rt; "bench part: times PART for eight parties and 240 LOOK gates of 256 codes")?;
+    }
+    for figures in &asked {
+        figures.measure(rt)?;
     }
     Ok(())
 }

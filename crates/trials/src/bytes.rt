@@ -1,12 +1,7 @@
-// Circuit files, byte for byte, and READ's answer in numbers.
-use files::{Gate, Kind, read};
+// Circuit files, byte for byte, and what READ answers of them.
+use files::{Gate, read};
 use refusals::Refusal;
-
-pub const NO_GATE: Gate = Gate {
-    kind: Kind::Add,
-    first: 0,
-    second: 0,
-};
+use std::alloc::{AllocError, Global};
 
 // The example circuit: the square of the sum of two digits.
 pub const SQUARES: [u8; 78] = [
@@ -23,26 +18,42 @@ pub const ALL_KINDS: [u8; 104] = [
     3, 0, 0, 0, 3, 4, 0, 0, 0, 238, 5, 0, 2, 0, 238,
 ];
 
-// A refusal's number and figure, the figure being 0 where there is none.
-pub fn numbers(r: Refusal) -> (u8, usize) {
-    (r.number(), r.figure().unwrap_or(0))
-}
-
-// What READ answers of a file that has at most four gates and two outputs: (0, 0) where it accepts.
-pub fn answer(file: &[u8]) -> (u8, usize) {
-    let mut gates = [NO_GATE; 4];
+// What READ answers of a file that has at most four gates and two outputs.
+pub fn answer(file: &[u8]) -> Result<(), Refusal> {
+    let mut gates = [Gate::default(); 4];
     let mut outputs = [0; 2];
-    match read(file, &mut gates, &mut outputs) {
-        Ok(_) => (0, 0),
-        Err(r) => numbers(r),
-    }
+    read(file, &mut gates, &mut outputs).map(|_| ())
 }
 
 // The same of ALL_KINDS with one byte changed.
-pub fn changed(at: usize, byte: u8) -> (u8, usize) {
+pub fn changed(at: usize, byte: u8) -> Result<(), Refusal> {
     let mut file = ALL_KINDS;
     if at < file.len() {
         file[at] = byte;
     }
     answer(&file)
+}
+
+// A circuit file with no gaps, from its counts and the bytes of its sections.
+pub fn circuit_file(
+    heap: Global,
+    counts: [u16; 7],
+    sections: [&[u8]; 5],
+) -> Result<Vec<u8>, AllocError> {
+    let mut file = Vec::new(heap);
+    for count in counts {
+        file.extend_from_slice(&count.to_le_bytes())?;
+    }
+    // A sum that runs along: each section begins where the one before it ends.
+    let mut offset = 54u32;
+    for section in &sections {
+        let length = (section.len() % 65536) as u32;
+        file.extend_from_slice(&offset.to_le_bytes())?;
+        file.extend_from_slice(&length.to_le_bytes())?;
+        offset = offset.wrapping_add(length);
+    }
+    for section in &sections {
+        file.extend_from_slice(section)?;
+    }
+    Ok(file)
 }

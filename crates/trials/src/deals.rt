@@ -1,14 +1,14 @@
 // Deals: the example, circuits made at random over both kinds of group, and what the dealer refuses.
-use crate::bytes::{NO_GATE, SQUARES};
-use crate::random::{Random, circuit_file};
+use crate::bytes::SQUARES;
+use crate::random::{Random, random_circuit};
 use circuits::Circuit;
 use dealer::{deal_part, fill, part_length, place_length, slot, tape_length};
-use files::{Gate, Kind, read};
+use files::{Gate, read};
 use groups::bitwise::Xor;
 use groups::masks::MaskGroup;
 use groups::modular::Mod;
 use refusals::Refusal;
-use std::alloc::Global;
+use std::alloc::{AllocError, Global};
 use std::process::Abort;
 use std::test::Fail;
 
@@ -18,47 +18,39 @@ fn at(xs: &[u8], k: usize) -> u8 {
 
 // The sum of the parties' shares of column k, the columns being the last of each part.
 fn column_sum<G: MaskGroup>(group: &G, parts: &[Vec<u8>], columns: usize, k: usize) -> u8 {
-    let mut sum = 0;
-    for part in parts {
+    parts.iter().fold(0, |sum, part| {
         let own = part.len().saturating_sub(columns);
-        sum = group.add(sum, at(part.as_slice(), own.saturating_add(k)));
-    }
-    sum
+        group.add(sum, at(part.as_slice(), own.saturating_add(k)))
+    })
 }
 
 // Whether the parts add up to what is owed under these masks.
 fn adds_up<G: MaskGroup>(
+    heap: Global,
     group: &G,
     circuit: &Circuit<'_>,
     masks: &[u8],
     parts: &[Vec<u8>],
-) -> bool {
-    let q = circuit.size() as usize;
-    let cells = q * circuit.look_count() as usize;
-    let columns = cells + circuit.output_count();
-    let mut k = 0usize;
-    let mut wire = circuit.input_count();
-    for gate in circuit.gates() {
-        if gate.kind == Kind::Look {
-            let s = at(masks, gate.first as usize);
-            for j in 0..circuit.size() {
-                let x = group.subtract((j % 256) as u8, s) as usize;
-                let entry = at(circuit.tables(), gate.second as usize * q + x);
-                if column_sum(group, parts, columns, k) != group.add(entry, at(masks, wire)) {
-                    return false;
-                }
-                k = k.saturating_add(1);
-            }
+) -> Result<bool, AllocError> {
+    let mut owed = Vec::new(heap);
+    for lookup in circuit.lookups() {
+        let operand = at(masks, usize::from(lookup.operand));
+        let table = circuit.table(lookup.table);
+        for j in (0..=255u8).take(table.len()) {
+            let entry = at(table, usize::from(group.subtract(j, operand)));
+            owed.push(group.add(entry, at(masks, lookup.wire)))?;
         }
-        wire = wire.saturating_add(1);
     }
     for output in circuit.outputs() {
-        if column_sum(group, parts, columns, k) != at(masks, *output as usize) {
-            return false;
-        }
-        k = k.saturating_add(1);
+        owed.push(at(masks, usize::from(*output)))?;
     }
-    k == columns
+    let cells = usize::from(circuit.size()) * usize::from(circuit.look_count());
+    let columns = cells + circuit.output_count();
+    let mut shares = owed.iter().enumerate();
+    Ok(
+        owed.len() == columns
+            && shares.all(|(k, share)| column_sum(group, parts, columns, k) == *share),
+    )
 }
 
 // Deals a tape to all parties, and says whether the parts add up.
@@ -74,8 +66,7 @@ fn deals<G: MaskGroup>(
     fill(group, bytes.as_slice(), tape.as_mut_slice())?;
     let mut masks = vec![in heap; 0u8; circuit.wire_count()]?;
     let mut parts = Vec::new(heap);
-    for p in 0..circuit.parties() {
-        let party = (p % 256) as u8;
+    for party in 0..circuit.parties() as u8 {
         let mut part = vec![in heap; 0u8; part_length(circuit, party)?]?;
         deal_part(
             group,
@@ -87,21 +78,7 @@ fn deals<G: MaskGroup>(
         )?;
         parts.push(part)?;
     }
-    Ok(adds_up(group, circuit, masks.as_slice(), parts.as_slice()))
-}
-
-// Reads a file, makes its circuit, and deals it.
-fn deals_file<'a, G: MaskGroup>(
-    heap: Global,
-    group: &G,
-    random: &mut Random,
-    file: &'a [u8],
-    gates: &'a [Gate],
-    outputs: &'a [u16],
-) -> Result<bool, Fail> {
-    let mut circuit = Circuit::single();
-    circuit.replace(file, gates, outputs)?;
-    deals(heap, group, &circuit, random)
+    Ok(adds_up(heap, group, circuit, masks.as_slice(), parts.as_slice())?)
 }
 
 fn random_deals<G: MaskGroup>(
@@ -112,27 +89,16 @@ fn random_deals<G: MaskGroup>(
 ) -> Result<(), Fail> {
     let mut random = Random::new(start);
     for i in 0..8u16 {
-        let file = circuit_file(heap, &mut random, group.size(), 2 + i % 7)?;
-        let mut gates = vec![in heap; NO_GATE; 12]?;
+        let file = random_circuit(heap, &mut random, group.size(), 2 + i % 7)?;
+        let mut gates = vec![in heap; Gate::default(); 12]?;
         let mut outputs = vec![in heap; 0u16; 3]?;
-        assert!(rt;
-            read(
-                file.as_slice(),
-                gates.as_mut_slice(),
-                outputs.as_mut_slice(),
-            )
-            .is_ok()
-        );
-        assert!(rt;
-            deals_file(
-                heap,
-                group,
-                &mut random,
-                file.as_slice(),
-                gates.as_slice(),
-                outputs.as_slice(),
-            )?
-        );
+        read(
+            file.as_slice(),
+            gates.as_mut_slice(),
+            outputs.as_mut_slice(),
+        )?;
+        let circuit = Circuit::new(file.as_slice(), gates.as_slice(), outputs.as_slice())?;
+        assert!(rt; deals(heap, group, &circuit, &mut random)?);
     }
     Ok(())
 }
@@ -148,40 +114,33 @@ fn parts_add_up(rt: HostRuntime) -> Result<(), Fail> {
     random_deals(&rt, heap, &Mod::new(256)?, 6)
 }
 
-fn number_of<T: Drop>(r: Result<T, Refusal>) -> u8 {
-    match r {
-        Ok(_) => 0,
-        Err(e) => e.number(),
-    }
-}
-
 // Masks 4 and 8 for the inputs and 5 for the LOOK; party 0 has 6 in cell 5, and 9 for the output.
 const TAPE: [u8; 14] = [4, 8, 5, 0, 1, 2, 3, 4, 6, 6, 7, 8, 9, 9];
 
 // The group's size, how much of the tape is handed in, where it has a 10, the party, the lengths of the buffers, and the
 // refusal.
-const REFUSED: [(u32, usize, usize, u8, usize, usize, u8); 8] = [
-    (11, 0, 0, 9, 0, 0, 9),
-    (10, 0, 0, 2, 0, 0, 10),
-    (10, 13, 0, 0, 4, 12, 15),
-    (10, 14, 0, 0, 3, 12, 15),
-    (10, 14, 0, 0, 5, 12, 15),
-    (10, 14, 0, 0, 4, 13, 15),
-    (10, 14, 0, 0, 4, 12, 16),
-    (10, 14, 13, 1, 4, 12, 16),
+const REFUSED: [(u32, usize, usize, u8, usize, usize, Refusal); 8] = [
+    (11, 0, 0, 9, 0, 0, Refusal::Counts),
+    (10, 0, 0, 2, 0, 0, Refusal::Party),
+    (10, 13, 0, 0, 4, 12, Refusal::Length),
+    (10, 14, 0, 0, 3, 12, Refusal::Length),
+    (10, 14, 0, 0, 5, 12, Refusal::Length),
+    (10, 14, 0, 0, 4, 13, Refusal::Length),
+    (10, 14, 0, 0, 4, 12, Refusal::NotCode),
+    (10, 14, 13, 1, 4, 12, Refusal::NotCode),
 ];
 
 fn refuses(rt: &impl Abort, circuit: &Circuit<'_>) -> Result<(), Fail> {
-    for (size, count, at, party, mask_places, part_places, number) in REFUSED {
+    for (size, count, at, party, mask_places, part_places, refusal) in REFUSED {
         let mut tape = TAPE;
         tape[at % 14] = 10;
         let mut masks = [200; 5];
         let mut part = [200; 13];
         let group = Mod::new(size)?;
-        let m = &mut masks[0..mask_places.min(5)];
-        let p = &mut part[0..part_places.min(13)];
-        let n = number_of(deal_part(&group, circuit, &tape[0..count.min(14)], party, m, p));
-        assert!(rt; n == number && masks == [200; 5] && part == [200; 13]);
+        let m = &mut masks[..mask_places.min(5)];
+        let p = &mut part[..part_places.min(13)];
+        let answer = deal_part(&group, circuit, &tape[..count.min(14)], party, m, p);
+        assert!(rt; answer == Err(refusal) && masks == [200; 5] && part == [200; 13]);
     }
     Ok(())
 }
@@ -189,47 +148,39 @@ fn refuses(rt: &impl Abort, circuit: &Circuit<'_>) -> Result<(), Fail> {
 fn lengths(rt: &impl Abort, c: &Circuit<'_>) {
     assert!(rt; tape_length(c) == 14);
     assert!(rt; part_length(c, 0) == Ok(12) && part_length(c, 1) == Ok(12));
-    assert!(rt; place_length(c, 0) == Ok(16) && number_of(place_length(c, 2)) == 10);
-    assert!(rt; number_of(part_length(c, 2)) == 10 && number_of(part_length(c, 255)) == 10);
+    assert!(rt; place_length(c, 0) == Ok(16) && place_length(c, 2) == Err(Refusal::Party));
+    assert!(rt;
+        part_length(c, 2) == Err(Refusal::Party) && part_length(c, 255) == Err(Refusal::Party)
+    );
     assert!(rt; slot(c, 0, 0) == Some(0) && slot(c, 1, 1) == Some(0));
     assert!(rt; slot(c, 0, 1) == None && slot(c, 1, 0) == None && slot(c, 0, 2) == None);
 }
 
-fn example<'a>(
-    rt: &impl Abort,
-    file: &'a [u8],
-    gates: &'a [Gate],
-    outputs: &'a [u16],
-) -> Result<(), Fail> {
-    let mut c = Circuit::single();
-    c.replace(file, gates, outputs)?;
-    lengths(rt, &c);
+#[test]
+fn example_deal(rt: HostRuntime) -> Result<(), Fail> {
+    let mut gates = [Gate::default(); 2];
+    let mut outputs = [0; 1];
+    read(&SQUARES, &mut gates, &mut outputs)?;
+    let circuit = Circuit::new(&SQUARES, &gates, &outputs)?;
+    lengths(&rt, &circuit);
     let ten = Mod::new(10)?;
     let mut masks = [0; 4];
     let mut first = [0; 12];
     let mut second = [0; 12];
-    deal_part(&ten, &c, &TAPE, 0, &mut masks, &mut first)?;
-    deal_part(&ten, &c, &TAPE, 1, &mut masks, &mut second)?;
+    deal_part(&ten, &circuit, &TAPE, 0, &mut masks, &mut first)?;
+    deal_part(&ten, &circuit, &TAPE, 1, &mut masks, &mut second)?;
     assert!(rt; masks == [4, 8, 2, 5]);
     assert!(rt; first == [4, 0, 1, 2, 3, 4, 6, 6, 7, 8, 9, 9]);
     // cell 5 adds to 4: the square of 5 - 2, and 5
     assert!(rt; second[0] == 8 && second[6] == 8 && second[11] == 6);
-    refuses(rt, &c)
-}
-
-#[test]
-fn example_deal(rt: HostRuntime) -> Result<(), Fail> {
-    let mut gates = [NO_GATE; 2];
-    let mut outputs = [0; 1];
-    assert!(rt; read(&SQUARES, &mut gates, &mut outputs).is_ok());
-    example(&rt, &SQUARES, &gates, &outputs)
+    refuses(&rt, &circuit)
 }
 
 #[test]
 fn fills(rt: HostRuntime) -> Result<(), Fail> {
     let ten = Mod::new(10)?;
     let mut tape = [77; 4];
-    assert!(rt; number_of(fill(&ten, &[0, 9, 10], &mut tape)) == 15 && tape == [77; 4]);
+    assert!(rt; fill(&ten, &[0, 9, 10], &mut tape) == Err(Refusal::Length) && tape == [77; 4]);
     fill(&ten, &[0, 9, 10, 255], &mut tape)?;
     assert!(rt; tape == [0, 9, 0, 5]);
     fill(&Xor::new(256)?, &[0, 9, 10, 255], &mut tape)?;

@@ -4,23 +4,28 @@ use groups::bitwise::Xor;
 use groups::choice::group;
 use groups::masks::MaskGroup;
 use groups::modular::Mod;
+use refusals::Refusal;
 use std::test::Fail;
-
-// GROUP's answer: the kind's number, or the refusal's.
-fn answer(word: &str, size: u32) -> u8 {
-    match group(word, size) {
-        Ok(kind) => kind.number(),
-        Err(r) => r.number(),
-    }
-}
 
 #[test]
 fn words_and_sizes(rt: HostRuntime) {
-    assert!(rt; answer("xor", 10) == 8 && answer("xor", 0) == 8 && answer("xor", 1) == 8);
-    assert!(rt; answer("xor", 512) == 8 && answer("xor", 2) == 1 && answer("xor", 256) == 1);
-    assert!(rt; answer("mod", 1) == 8 && answer("mod", 257) == 8 && answer("mod", 65538) == 8);
-    assert!(rt; answer("mod", 2) == 2 && answer("mod", 10) == 2 && answer("mod", 256) == 2);
-    assert!(rt; answer("", 2) == 8 && answer("Xor", 2) == 8 && answer("mod ", 2) == 8);
+    let refused = Err(Refusal::Group);
+    let xor = Ok(Kind::Xor);
+    let modulo = Ok(Kind::Mod);
+    assert!(rt;
+        group("xor", 10) == refused && group("xor", 0) == refused && group("xor", 1) == refused
+    );
+    assert!(rt; group("xor", 512) == refused && group("xor", 2) == xor && group("xor", 256) == xor);
+    assert!(rt;
+        group("mod", 1) == refused && group("mod", 257) == refused && group("mod", 65538) == refused
+    );
+    assert!(rt;
+        group("mod", 2) == modulo && group("mod", 10) == modulo && group("mod", 256) == modulo
+    );
+    assert!(rt;
+        group("", 2) == refused && group("Xor", 2) == refused && group("mod ", 2) == refused
+    );
+    assert!(rt; Kind::Xor.number() == 1 && Kind::Mod.number() == 2 && Refusal::Group.number() == 8);
 }
 
 #[test]

@@ -15,6 +15,8 @@ mod looks;
 #[cfg(test)]
 mod random;
 #[cfg(test)]
+mod refusals_named;
+#[cfg(test)]
 mod runs;
 #[cfg(test)]
 mod spoilt;

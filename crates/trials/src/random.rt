@@ -1,4 +1,5 @@
 // Circuit files made at random.
+use crate::bytes::circuit_file;
 use std::alloc::{AllocError, Global};
 
 // A generator of numbers that look random and are the same in every run.
@@ -30,26 +31,19 @@ impl Random {
             *b = (self.next() / 8 % 256) as u8;
         }
     }
-}
 
-fn push_number(file: &mut Vec<u8>, n: u16) -> Result<(), AllocError> {
-    file.extend_from_slice(&n.to_le_bytes())
-}
-
-fn push_codes(
-    file: &mut Vec<u8>,
-    random: &mut Random,
-    count: u16,
-    q: u16,
-) -> Result<(), AllocError> {
-    for _ in 0..count {
-        file.push((random.below(q) % 256) as u8)?;
+    // So many numbers below q.
+    fn codes(&mut self, heap: Global, count: u16, q: u16) -> Result<Vec<u8>, AllocError> {
+        let mut codes = Vec::new(heap);
+        for _ in 0..count {
+            codes.push((self.below(q) % 256) as u8)?;
+        }
+        Ok(codes)
     }
-    Ok(())
 }
 
 // A circuit of q codes and n parties, with up to four inputs and twelve gates, two tables, two rows and three outputs.
-pub fn circuit_file(
+pub fn random_circuit(
     heap: Global,
     random: &mut Random,
     q: u16,
@@ -58,33 +52,34 @@ pub fn circuit_file(
     let inputs = 1 + random.below(4) % 4;
     let gates = random.below(13) % 13;
     let size = q.min(256);
-    let mut file = Vec::new(heap);
-    for count in [size, n, inputs, gates, 2, 2, 3] {
-        push_number(&mut file, count)?;
-    }
-    let mut offset = 54u16;
-    for length in [inputs, 2 * size, 16, 5 * gates, 6] {
-        file.extend_from_slice(&u32::from(offset).to_le_bytes())?;
-        file.extend_from_slice(&u32::from(length).to_le_bytes())?;
-        offset = offset.wrapping_add(length);
-    }
-    push_codes(&mut file, random, inputs, n)?;
-    push_codes(&mut file, random, 2 * size, size)?;
-    push_codes(&mut file, random, 16, size)?;
-    for k in 0..gates {
-        let wire = inputs + k;
+    let owners = random.codes(heap, inputs, n)?;
+    let tables = random.codes(heap, 2 * size, size)?;
+    let rows = random.codes(heap, 16, size)?;
+    let mut entries = Vec::new(heap);
+    for wire in inputs..inputs + gates {
         let kind = random.below(4);
-        file.push((kind % 4) as u8)?;
-        push_number(&mut file, random.below(wire))?;
+        entries.push((kind % 4) as u8)?;
+        entries.extend_from_slice(&random.below(wire).to_le_bytes())?;
         let limit = match kind {
             0 => wire,
             1 => size,
             _ => 2,
         };
-        push_number(&mut file, random.below(limit))?;
+        entries.extend_from_slice(&random.below(limit).to_le_bytes())?;
     }
+    let mut outputs = Vec::new(heap);
     for _ in 0..3 {
-        push_number(&mut file, random.below(inputs + gates))?;
+        outputs.extend_from_slice(&random.below(inputs + gates).to_le_bytes())?;
     }
-    Ok(file)
+    circuit_file(
+        heap,
+        [size, n, inputs, gates, 2, 2, 3],
+        [
+            owners.as_slice(),
+            tables.as_slice(),
+            rows.as_slice(),
+            entries.as_slice(),
+            outputs.as_slice(),
+        ],
+    )
 }

@@ -1,23 +1,19 @@
 // Places that were spoilt between READ and CIRCUIT.
-use crate::bytes::{ALL_KINDS, NO_GATE, numbers};
+use crate::bytes::ALL_KINDS;
 use circuits::Circuit;
 use files::{Gate, Kind, read};
+use refusals::Refusal;
 
 // What CIRCUIT answers of a file and these places, and how many codes the circuit held then has: 2 where it is still the
 // one built in.
-fn made<'a>(file: &'a [u8], gates: &'a [Gate], outputs: &'a [u16]) -> (u8, usize, u16) {
+fn made<'a>(file: &'a [u8], gates: &'a [Gate], outputs: &'a [u16]) -> (Result<(), Refusal>, u16) {
     let mut held = Circuit::single();
-    match held.replace(file, gates, outputs) {
-        Ok(()) => (0, 0, held.size()),
-        Err(r) => {
-            let (number, figure) = numbers(r);
-            (number, figure, held.size())
-        }
-    }
+    let answer = held.replace(file, gates, outputs);
+    (answer, held.size())
 }
 
-// A gate's place, another record for it, and the number and figure of the refusal.
-const GATES: [(usize, Gate, u8, usize); 7] = [
+// A gate's place, another record for it, and what CIRCUIT answers then.
+const GATES: [(usize, Gate, Result<(), Refusal>); 7] = [
     (
         0,
         Gate {
@@ -25,8 +21,7 @@ const GATES: [(usize, Gate, u8, usize); 7] = [
             first: 2,
             second: 1,
         },
-        5,
-        79,
+        Err(Refusal::Operand(79)),
     ),
     (
         0,
@@ -35,8 +30,7 @@ const GATES: [(usize, Gate, u8, usize); 7] = [
             first: 0,
             second: 2,
         },
-        5,
-        81,
+        Err(Refusal::Operand(81)),
     ),
     (
         1,
@@ -45,8 +39,7 @@ const GATES: [(usize, Gate, u8, usize); 7] = [
             first: 2,
             second: 10,
         },
-        6,
-        86,
+        Err(Refusal::Code(86)),
     ),
     (
         2,
@@ -55,8 +48,7 @@ const GATES: [(usize, Gate, u8, usize); 7] = [
             first: 3,
             second: 1,
         },
-        5,
-        91,
+        Err(Refusal::Operand(91)),
     ),
     (
         3,
@@ -65,8 +57,7 @@ const GATES: [(usize, Gate, u8, usize); 7] = [
             first: 5,
             second: 0,
         },
-        5,
-        94,
+        Err(Refusal::Operand(94)),
     ),
     (
         3,
@@ -75,8 +66,7 @@ const GATES: [(usize, Gate, u8, usize); 7] = [
             first: 4,
             second: 1,
         },
-        5,
-        96,
+        Err(Refusal::Operand(96)),
     ),
     (
         3,
@@ -85,25 +75,36 @@ const GATES: [(usize, Gate, u8, usize); 7] = [
             first: 4,
             second: 9,
         },
-        0,
-        0,
+        Ok(()),
     ),
 ];
 
 #[test]
 fn one_record(rt: HostRuntime) {
-    let mut gates = [NO_GATE; 5];
+    let mut gates = [Gate::default(); 5];
     let mut outputs = [0; 3];
     assert!(rt; read(&ALL_KINDS, &mut gates, &mut outputs).is_ok());
-    assert_eq!(rt; made(&ALL_KINDS, &gates, &outputs), (0, 0, 10));
-    for (at, gate, number, figure) in GATES {
+    assert_eq!(rt; made(&ALL_KINDS, &gates, &outputs), (Ok(()), 10));
+    for (at, gate, expected) in GATES {
         let mut other = gates;
         other[at % 5] = gate;
-        let size = if number == 0 { 10 } else { 2 };
-        assert_eq!(rt; made(&ALL_KINDS, &other, &outputs), (number, figure, size));
+        let size = if expected.is_ok() { 10 } else { 2 };
+        assert_eq!(rt; made(&ALL_KINDS, &other, &outputs), (expected, size));
     }
-    assert_eq!(rt; made(&ALL_KINDS, &gates, &[6, 2]), (7, 99, 2));
-    assert_eq!(rt; made(&ALL_KINDS, &gates, &[5, 6]), (7, 101, 2));
-    assert_eq!(rt; made(&ALL_KINDS, &gates[0..3], &outputs), (3, 6, 2));
-    assert_eq!(rt; made(&ALL_KINDS, &gates, &outputs[0..1]), (3, 12, 2));
+    assert_eq!(rt;
+        made(&ALL_KINDS, &gates, &[6, 2]),
+        (Err(Refusal::Absent(99)), 2)
+    );
+    assert_eq!(rt;
+        made(&ALL_KINDS, &gates, &[5, 6]),
+        (Err(Refusal::Absent(101)), 2)
+    );
+    assert_eq!(rt;
+        made(&ALL_KINDS, &gates[..3], &outputs),
+        (Err(Refusal::Places(6)), 2)
+    );
+    assert_eq!(rt;
+        made(&ALL_KINDS, &gates, &outputs[..1]),
+        (Err(Refusal::Places(12)), 2)
+    );
 }
