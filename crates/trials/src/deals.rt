@@ -2,7 +2,7 @@
 use crate::bytes::SQUARES;
 use crate::random::{Random, random_circuit};
 use circuits::Circuit;
-use dealer::{deal_part, fill, part_length, place_length, slot, tape_length};
+use dealer::{deal_part, fill, part_length, place_length, shift_part, slot, tape_length};
 use files::{Gate, read};
 use groups::bitwise::Xor;
 use groups::masks::MaskGroup;
@@ -185,5 +185,55 @@ fn fills(rt: HostRuntime) -> Result<(), Fail> {
     assert!(rt; tape == [0, 9, 0, 5]);
     fill(&Xor::new(256)?, &[0, 9, 10, 255], &mut tape)?;
     assert!(rt; tape == [0, 9, 10, 255]);
+    Ok(())
+}
+
+// Party 0 entered 7, and 1 is to be hidden behind it: its mask moves by 6, as does that of the sum, and the squares of 3 and
+// of 7 are both 9, so that the mask of the LOOK stays.
+const DIFFERENCES: [u8; 4] = [6, 0, 6, 0];
+
+#[test]
+fn example_shift(rt: HostRuntime) -> Result<(), Fail> {
+    let mut gates = [Gate::default(); 2];
+    let mut outputs = [0; 1];
+    read(&SQUARES, &mut gates, &mut outputs)?;
+    let circuit = Circuit::new(&SQUARES, &gates, &outputs)?;
+    let ten = Mod::new(10)?;
+    let mut masks = [0; 4];
+    let mut part = [0; 12];
+    deal_part(&ten, &circuit, &TAPE, 0, &mut masks, &mut part)?;
+    let mut shifted = [200; 12];
+    shift_part(&ten, &circuit, 0, &masks, &DIFFERENCES, &part, &mut shifted)?;
+    // the mask is 4 and 6; cell 1 was to come to 6, the square of 9 and 5, and comes to 4, the square of 3 and 5, so that its
+    // share gains 8; cell 5 came to 4, the square of 3 and 5, and does again, the square of 7 and 5
+    assert!(rt; shifted[0] == 0 && shifted[2] == 9 && shifted[6] == 6 && shifted[11] == 9);
+    let mut other = [200; 12];
+    let eleven = Mod::new(11)?;
+    assert!(rt; shift_part(&eleven, &circuit, 9, &[], &[], &[], &mut []) == Err(Refusal::Counts));
+    assert!(rt; shift_part(&ten, &circuit, 2, &[], &[], &[], &mut []) == Err(Refusal::Party));
+    // a mask, a difference, a number of the part or a place too few
+    for (m, d, p, places) in [
+        (3, 4, 12, 12),
+        (4, 3, 12, 12),
+        (4, 4, 11, 12),
+        (4, 4, 12, 11),
+    ] {
+        let to = &mut other[..places.min(12)];
+        let answer = shift_part(
+            &ten,
+            &circuit,
+            0,
+            &masks[..m.min(4)],
+            &DIFFERENCES[..d.min(4)],
+            &part[..p.min(12)],
+            to,
+        );
+        assert!(rt; answer == Err(Refusal::Length));
+    }
+    assert!(rt;
+        shift_part(&ten, &circuit, 0, &masks, &[10, 0, 6, 0], &part, &mut other)
+            == Err(Refusal::NotCode)
+    );
+    assert!(rt; other == [200; 12]);
     Ok(())
 }
