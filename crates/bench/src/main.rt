@@ -128,6 +128,7 @@ impl Figures {
     }
 
     fn measure(self, rt: &HostRuntime) -> anyhow::Result<()> {
+        // Two figures, and how each is measured.
         match self {
             Figures::Read => {
                 for gates in [1024, 2048, 4096] {

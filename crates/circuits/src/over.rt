@@ -21,6 +21,7 @@ pub struct Over<'a, G: MaskGroup> {
 
 impl<'a, G: MaskGroup> Over<'a, G> {
     /// The circuit over the group, or `Refusal::Counts` where the group has not as many codes as the circuit.
+    // Public calls take the two apart; from here on they are one.
     pub fn new(group: &'a G, circuit: &'a Circuit<'a>) -> Result<Over<'a, G>, Refusal>
         ensures { Tested (unless ((G.means group.now).size == (net circuit.now).size) Refusal.Counts) result (λ o. (o.group.now ≡ group.now) × (o.circuit.now ≡ circuit.now)) }
     {

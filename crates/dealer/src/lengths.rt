@@ -9,7 +9,7 @@ ghost use Rattle.dealer.specs.Lengths.{party_fault, place_length, slot_of};
 use circuits::Circuit;
 use refusals::Refusal;
 
-// How many cells a block has: one for each LOOK gate and code.
+// How many cells a block has: one for each LOOK gate and code. Here alone they are counted.
 pub(crate) fn cell_count(circuit: &Circuit<'_>) -> usize
     ensures is { result ≡ cells (net circuit.now) }
     ensures within { result ≤ 240 * 256 }
@@ -43,6 +43,7 @@ pub fn tape_length(circuit: &Circuit<'_>) -> usize
 }
 
 /// How many numbers the part of `party` has, or `Refusal::Party` if there is no such party.
+// Circuit and party are handed in apart, as in every public call.
 pub fn part_length(circuit: &Circuit<'_>, party: u8) -> Result<usize, Refusal>
     ensures { Tested (party_fault (net circuit.now) party) result (λ n. n ≡ part_length (net circuit.now) party) }
 {

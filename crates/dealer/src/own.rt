@@ -2,7 +2,8 @@
 ghost use Rattle.std.specs.Prelude.{◌≡◌, ◌≤◌, length, take};
 ghost use Rattle.model.specs.Deal.{owned, own_masks};
 
-// Copies the masks of the input wires that `party` owns, in order, to the front of `part`.
+// Copies the masks of the input wires that `party` owns, in order, to the front of `part`. Differences are copied by it too, so that
+// it takes a list and not `Masked`.
 pub(crate) fn copy_own(owners: &[u8], masks: &[u8], party: u8, part: &mut [u8])
     requires masks { length owners.now ≤ length masks.now }
     requires room { owned party owners.now ≤ length part.old }

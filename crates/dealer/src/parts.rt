@@ -55,7 +55,7 @@ fn write_masks<G: MaskGroup>(over: &Over<'_, G>, tape: &[u8], masks: &mut [u8])
     over.flow(&Masking { looks }, masks);
 }
 
-// Writes the part of `party`: the masks of its own inputs, then its block.
+// Writes the part of `party`: the masks of its own inputs, then its block. Party and buffer are what is left to hand on beside `Over`.
 fn write_part<'a, G: MaskGroup>(
     over: &'a Over<'a, G>,
     tape: &[u8],

@@ -52,7 +52,7 @@ impl fmt::Display for Kind {
     }
 }
 
-// By hand for the same reason.
+// By hand for the same reason, and so `Error` below.
 impl fmt::Display for UnknownKind {
     ghost output = { λ e. Some (codes "no kind of gate has the number " ++ decimal e.0) };
 
