@@ -100,7 +100,8 @@ fn activate(rt: &HostRuntime) -> anyhow::Result<()> {
     let mut outputs = vec![in heap; 0u16; 64]?;
     let contents = read(file, gates.as_mut_slice(), outputs.as_mut_slice())?;
     describe(rt, &contents)?;
-    let circuit = Circuit::new(file, gates.as_slice(), outputs.as_slice())?;
+    let mut circuit = Circuit::single();
+    circuit.replace(file, gates.as_slice(), outputs.as_slice())?;
     list(rt, &circuit)?;
     let kind = group("mod", 10)?.number();
     println!(rt; "mod 10 is a group of kind {kind}")?;

@@ -105,7 +105,8 @@ fn time_part(rt: &HostRuntime) -> anyhow::Result<()> {
     )?;
     let found = contents.looks;
     println!(rt; "a circuit of 4096 gates, {found} of them LOOK")?;
-    let circuit = Circuit::new(file.as_slice(), records.as_slice(), outputs.as_slice())?;
+    let mut circuit = Circuit::single();
+    circuit.replace(file.as_slice(), records.as_slice(), outputs.as_slice())?;
     time_parts(rt, &circuit)
 }
 

@@ -1,4 +1,4 @@
-// CIRCUIT: the ways to a circuit that is not built in.
+// CIRCUIT: the one way to a circuit that is not built in.
 ghost use Rattle.std.specs.Prelude.{◌≡◌, OnErr};
 ghost use Rattle.refusals.specs.Tests.{Tested};
 ghost use Rattle.circuits.specs.Circuits.{net};
@@ -9,12 +9,8 @@ use files::{Gate, Survey, front, section_of, survey};
 use refusals::Refusal;
 
 impl<'a> Circuit<'a> {
-    /// The circuit of a file and of the places that READ filled: tests the file, then the places.
-    pub fn new(
-        file: &'a [u8],
-        gates: &'a [Gate],
-        outputs: &'a [u16],
-    ) -> Result<Circuit<'a>, Refusal>
+    // The circuit of a file and of the places that READ filled: tests the file, then the places.
+    fn new(file: &'a [u8], gates: &'a [Gate], outputs: &'a [u16]) -> Result<Circuit<'a>, Refusal>
         ensures { Tested (circuit_fault file.now gates.now outputs.now) result (λ c. net c ≡ circuit_net file.now gates.now outputs.now) }
     {
         let Survey {
@@ -36,7 +32,8 @@ impl<'a> Circuit<'a> {
         })
     }
 
-    /// CIRCUIT: makes that circuit and puts it in the place of this one. A refusal leaves this one as it was.
+    /// CIRCUIT: tests the file, then the places that READ filled, and puts their circuit in the place of this one.
+    /// A refusal leaves this one as it was.
     pub fn replace(
         &mut self,
         file: &'a [u8],

@@ -97,7 +97,8 @@ fn random_deals<G: MaskGroup>(
             gates.as_mut_slice(),
             outputs.as_mut_slice(),
         )?;
-        let circuit = Circuit::new(file.as_slice(), gates.as_slice(), outputs.as_slice())?;
+        let mut circuit = Circuit::single();
+        circuit.replace(file.as_slice(), gates.as_slice(), outputs.as_slice())?;
         assert!(rt; deals(heap, group, &circuit, &mut random)?);
     }
     Ok(())
@@ -161,7 +162,8 @@ fn example_deal(rt: HostRuntime) -> Result<(), Fail> {
     let mut gates = [Gate::default(); 2];
     let mut outputs = [0; 1];
     read(&SQUARES, &mut gates, &mut outputs)?;
-    let circuit = Circuit::new(&SQUARES, &gates, &outputs)?;
+    let mut circuit = Circuit::single();
+    circuit.replace(&SQUARES, &gates, &outputs)?;
     lengths(&rt, &circuit);
     let ten = Mod::new(10)?;
     let mut masks = [0; 4];
@@ -197,7 +199,8 @@ fn example_shift(rt: HostRuntime) -> Result<(), Fail> {
     let mut gates = [Gate::default(); 2];
     let mut outputs = [0; 1];
     read(&SQUARES, &mut gates, &mut outputs)?;
-    let circuit = Circuit::new(&SQUARES, &gates, &outputs)?;
+    let mut circuit = Circuit::single();
+    circuit.replace(&SQUARES, &gates, &outputs)?;
     let ten = Mod::new(10)?;
     let mut masks = [0; 4];
     let mut part = [0; 12];

@@ -35,7 +35,7 @@ fn answer(heap: Global, gates: u16, looks: u16) -> Result<Result<u16, Refusal>, 
 
 // What CIRCUIT answers of a file with no LOOK gate but the last, and places that hold nothing but LOOK gates.
 fn all_looks<'a>(file: &'a [u8], gates: &'a [Gate], outputs: &'a [u16]) -> Result<(), Refusal> {
-    Circuit::new(file, gates, outputs).map(|_| ())
+    Circuit::single().replace(file, gates, outputs)
 }
 
 #[test]

@@ -50,7 +50,8 @@ fn all_kinds(rt: HostRuntime) -> Result<(), Fail> {
     let mut gates = [Gate::default(); 4];
     let mut outputs = [0; 2];
     read(&ALL_KINDS, &mut gates, &mut outputs)?;
-    let circuit = Circuit::new(&ALL_KINDS, &gates, &outputs)?;
+    let mut circuit = Circuit::single();
+    circuit.replace(&ALL_KINDS, &gates, &outputs)?;
     let ten = Mod::new(10)?;
     // 7 + 6 is 3, shifted by 7 is 0, nine times that is 0, whose square is 0
     let (answered, w, o) = answer(&ten, &circuit, &[7, 6], (6, 2));
