@@ -2,16 +2,16 @@
 use Rattle.std.proofs.Common.{◌≡◌, ℕ, suc, ◌+◌, ◌-◌, ◌*◌, ◌/◌, ◌<◌, ◌≤◌, List, [], ◌∷◌, length, get_or, take, drop, sym, ap, ◌∙◌, ap₂, suc-mul, arith}
 use Rattle.std.proofs.lemmas.List.{get_or_append_left, get_or_push}
 use Rattle.std.proofs.lemmas.Nat.{div-mul-add, le-div}
-use Rattle.groups.specs.Group.{Group, Laws, Codes}
-use Rattle.model.specs.Words.{Below}
+use Rattle.groups.specs.Group.{Group, sub}
+use Rattle.groups.specs.Total.{total}
+use Rattle.model.specs.Words.{at, each}
 use Rattle.model.specs.Net.{Net, Valid}
-use Rattle.model.specs.Deal.{columns, owed}
+use Rattle.model.specs.Deal.{columns, column, owed}
 use Rattle.model.specs.Tape.{pieces}
 use Rattle.dealer.specs.Parts.{last_block, blocks}
-use Rattle.model.proofs.Listed.{code_at}
-use Rattle.model.proofs.Wires.{codes_of}
-use Rattle.model.proofs.Masks.{owed_code}
-use Rattle.dealer.proofs.Pieces.{pieces_length, piece_is, lacking, cut}
+use Rattle.model.proofs.Listed.{at_each}
+use Rattle.dealer.proofs.Places.{each_same}
+use Rattle.dealer.proofs.Pieces.{pieces_length, piece_is, cut}
 
 module _ (G : Group) (net : Net) (m dealt : List ℕ) (p : ℕ) where
   pub block_piece : p + 1 < net.parties → take (columns net) (drop (p * columns net) dealt) ≡ get_or (blocks G net m dealt) p []
@@ -39,16 +39,13 @@ module _ (G : Group) (net : Net) (m dealt : List ℕ) (p : ℕ) where
     pub piece_lacks : p < net.parties → (n : ℕ) → n ≡ length rest / size → n ≤ q → last_block G net m (pieces (net.parties - 1) (columns net) dealt) ≡ get_or (blocks G net m dealt) p []
     piece_lacks party n all few = block_last (omega (arith, count))
 
-module _ (G : Group) (laws : Laws G) (net : Net) (valid : Valid net) (same : G.size ≡ net.size) (m : List ℕ) where
-  -- what is owed under masks that are codes is codes
-  pub owed_codes : Below net.size m → Codes G (owed G net m)
-  owed_codes c k l = owed_code G laws net valid same m (code_at G laws m (codes_of G laws net valid same m c)) k
-
-  -- the block that lacks the pieces of the others is the last one
-  pub last_lacks : (dealt owing block : List ℕ) → length dealt ≡ (net.parties - 1) * columns net → owing ≡ owed G net m → length owing ≡ columns net
-      → block ≡ lacking G (length owing) owing (cut (length owing) dealt) → block ≡ last_block G net m (pieces (net.parties - 1) (columns net) dealt)
-  last_lacks dealt owing block long is wide value =
-      let some : 0 < columns net = omega (arith, valid.counted) in
-      let count : length dealt / columns net ≡ net.parties - 1 = ap (λ n. n / columns net) (long ∙ omega arith) ∙ div-mul-add (net.parties - 1) (columns net) 0 some in
-      value ∙ ap (λ n. lacking G n owing (cut n dealt)) wide
-      ∙ ap₂ (λ xs n. lacking G (columns net) xs (pieces n (columns net) dealt)) is count
+-- the block that lacks the sums of the others' pieces is the last one
+pub last_lacks : (G : Group) (net : Net) → Valid net → (m dealt sums block : List ℕ) (n : ℕ) → length dealt ≡ (net.parties - 1) * columns net → n ≡ columns net
+    → sums ≡ each n (λ k. total G (column (cut n dealt) k)) → block ≡ each (columns net) (λ k. sub G (at (owed G net m) k) (at sums k))
+    → block ≡ last_block G net m (pieces (net.parties - 1) (columns net) dealt)
+last_lacks G net valid m dealt sums block n long wide summed value =
+    let w = columns net in
+    let count : length dealt / w ≡ net.parties - 1 = ap (λ k. k / w) (long ∙ omega arith) ∙ div-mul-add (net.parties - 1) w 0 (omega (arith, valid.counted)) in
+    value ∙ each_same w _ _ (λ k h.
+    ap (sub G (at (owed G net m) k))
+    (ap (λ xs. at xs k) (summed ∙ ap (λ i. each i (λ k. total G (column (cut i dealt) k))) wide) ∙ at_each w _ k h ∙ ap (λ c. total G (column (pieces c w dealt) k)) count))

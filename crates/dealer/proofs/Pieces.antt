@@ -1,17 +1,14 @@
--- The pieces that a tape is cut into, and a block from which they are taken.
-use Rattle.std.proofs.Common.{◌≡◌, ℕ, zero, suc, ◌+◌, ◌*◌, ◌/◌, ◌%◌, ◌<◌, List, [], ◌∷◌, ◌++◌, length, take, drop, sym, refl, ap, ◌∙◌, subst, ap₂, suc-mul, zero-mul, arith}
-use Rattle.std.proofs.lemmas.List.{drop-drop, take_at, drop_at, length-append}
+-- The pieces that a tape is cut into, and a block to which they are added.
+use Rattle.std.proofs.Common.{replicate, fold, ◌≡◌, ℕ, zero, suc, ◌+◌, ◌*◌, ◌/◌, ◌%◌, ◌<◌, List, [], ◌∷◌, ◌++◌, length, take, drop, sym, refl, ap, ◌∙◌, ap₂, suc-mul, zero-mul, arith}
+use Rattle.std.proofs.lemmas.List.{drop-drop, take_at, drop_at, length-append, get_or-replicate}
 use Rattle.std.proofs.lemmas.List.FromFn.{fill_by_all}
 use Rattle.std.proofs.lemmas.Nat.{div-mul-add}
-use Rattle.groups.specs.Group.{Group, Laws, Codes, sub}
+use Rattle.groups.specs.Group.{Group}
 use Rattle.groups.specs.Total.{total}
-use Rattle.groups.specs.Kept.{codes_take}
-use Rattle.groups.proofs.Derived.{algebra}
 use Rattle.model.specs.Words.{at, each}
 use Rattle.model.specs.Deal.{block, column}
 use Rattle.model.specs.Tape.{pieces}
-use Rattle.model.proofs.Listed.{at_each, code_at, codes_drop, codes_each}
-use Rattle.model.proofs.Sums.{Blocks, column_code, column_cons}
+use Rattle.model.proofs.Listed.{at_each}
 use Rattle.dealer.proofs.Places.{each_same}
 
 pub pieces_length : (m n : ℕ) (xs : List ℕ) → length (pieces m n xs) ≡ m
@@ -26,12 +23,6 @@ piece_is (suc m) n xs zero l = ap (λ k. take n (drop k xs)) (sym (zero-mul n))
 piece_is (suc m) n xs (suc p) l =
     let more : n + p * n ≡ suc p * n = omega (arith, suc-mul p n) in
     piece_is m n (drop n xs) p (omega arith) ∙ ap (take n) (drop-drop (p * n) n xs ∙ ap (λ k. drop k xs) more)
-
-pieces_codes : (G : Group) → Laws G → (m n : ℕ) (xs : List ℕ) → Codes G xs → Blocks G (pieces m n xs)
-unfolding pieces
-pieces_codes G laws zero n xs c p l = absurd (omega arith)
-pieces_codes G laws (suc m) n xs c zero l = codes_take G n xs c
-pieces_codes G laws (suc m) n xs c (suc p) l = pieces_codes G laws m n (drop n xs) (codes_drop G laws n xs c) p (omega arith)
 
 -- all pieces of n numbers
 abbrev pub cut : ℕ → List ℕ → List (List ℕ)
@@ -52,47 +43,36 @@ cut_more n b rest some long =
     ap (λ m. pieces m n (b ++ rest)) count
     ∙ ap₂ (λ (x : List ℕ) (xs : List (List ℕ)). x ∷ xs) (take_at b rest n long) (ap (pieces (r / n) n) (drop_at b rest n long))
 
--- what is left of a block when the blocks of others are taken from it
-abbrev pub lacking : Group → ℕ → List ℕ → List (List ℕ) → List ℕ
-lacking G n b bs = each n (λ k. sub G (at b k) (total G (column bs k)))
+-- sums to which the pieces that are left are added
+abbrev pub summed : Group → ℕ → List ℕ → List ℕ → List ℕ
+summed G n b rest = each n (λ k. fold G.add (at b k) (column (cut n rest) k))
 
--- Blocks are taken one by one: `b` is left, `rest` is not yet taken, and in all they come to `whole`.
-pub record Lacking (G : Group) (n : ℕ) (b rest : List ℕ) (size : ℕ) (whole : List ℕ) : Type 0 where
+-- Blocks are added one by one: `b` has the sums so far, `rest` is not yet added, and in all they come to `whole`.
+pub record Summing (G : Group) (n : ℕ) (b rest : List ℕ) (size : ℕ) (whole : List ℕ) : Type 0 where
   pub width : size ≡ n
-  pub codes : Codes G b
-  pub left : Codes G rest
-  pub is : lacking G n b (cut n rest) ≡ whole
+  pub is : summed G n b rest ≡ whole
 
-module _ (G : Group) (laws : Laws G) where
-  sub_add_sum : (a b c : ℕ) → a < G.size → b < G.size → c < G.size → sub G (sub G a b) c ≡ sub G a (G.add b c)
-  sub_add_sum a b c ha hb hc =
-      laws.assoc a (G.neg b) (G.neg c) ha (laws.neg_code b hb) (laws.neg_code c hc) ∙ ap (G.add a) (sym ((algebra laws).neg_add b c hb hc))
-
-  pub lacking_more : (n : ℕ) (b taken rest new : List ℕ) (size size' : ℕ) (x all : List ℕ) → Lacking G n b all size taken → 0 < n → size' ≡ size → all ≡ x ++ rest → length x ≡ size
-      → new ≡ each n (λ k. sub G (at b k) (at x k)) → Lacking G n new rest size' taken
-  lacking_more n b taken rest new size size' x all so some same split long value =
+module _ (G : Group) where
+  pub summing_more : (n : ℕ) (b whole rest new : List ℕ) (size size' : ℕ) (x all : List ℕ) → Summing G n b all size whole → 0 < n → size' ≡ size → all ≡ x ++ rest → length x ≡ size
+      → new ≡ each n (λ k. G.add (at b k) (at x k)) → Summing G n new rest size' whole
+  summing_more n b whole rest new size size' x all so some same split long value =
       let wide_x : length x ≡ n = long ∙ so.width in
       let cut_all : cut n all ≡ x ∷ cut n rest = ap (cut n) split ∙ cut_more n x rest some wide_x in
-      let cx : Codes G x = subst (Codes G) (ap (take n) split ∙ take_at x rest n wide_x) (codes_take G n all so.left) in
-      let cr : Codes G rest = subst (Codes G) (ap (drop n) split ∙ drop_at x rest n wide_x) (codes_drop G laws n all so.left) in
-      let blocks = pieces_codes G laws (length rest / n) n rest cr in
       record {
         width = same ∙ so.width;
-        codes = subst (Codes G) (sym value) (codes_each G n _ (λ k h. (algebra laws).sub_code _ _ (code_at G laws b so.codes k) (code_at G laws x cx k)));
-        left = cr;
         is =
             each_same n _ _ (λ k h.
-            let at_new : at new k ≡ sub G (at b k) (at x k) = ap (λ xs. at xs k) value ∙ at_each n _ k h in
-            let sum : total G (column (cut n all) k) ≡ G.add (at x k) (total G (column (cut n rest) k)) = ap (λ bs. total G (column bs k)) cut_all ∙ column_cons G laws x (cut n rest) k cx blocks in
-            ap (λ m. sub G m (total G (column (cut n rest) k))) at_new
-            ∙ sub_add_sum (at b k) (at x k) _ (code_at G laws b so.codes k) (code_at G laws x cx k) (column_code G laws (cut n rest) k blocks)
-            ∙ ap (sub G (at b k)) (sym sum))
+            let at_new : at new k ≡ G.add (at b k) (at x k) = ap (λ xs. at xs k) value ∙ at_each n _ k h in
+            ap (λ m. fold G.add m (column (cut n rest) k)) at_new ∙ sym (ap (λ bs. fold G.add (at b k) (column bs k)) cut_all))
             ∙ so.is;
       }
 
-  pub lacking_all : (n : ℕ) (b taken rest : List ℕ) (size : ℕ) → Lacking G n b rest size taken → length rest < size → length b ≡ n → b ≡ taken
-  lacking_all n b taken rest size so few wide =
+  pub summing_all : (n : ℕ) (b whole rest : List ℕ) (size : ℕ) → Summing G n b rest size whole → length rest < size → length b ≡ n → b ≡ whole
+  summing_all n b whole rest size so few wide =
       let none = cut_none n rest (omega (arith, so.width)) in
-      fill_by_all (λ k. sub G (at b k) (total G (column (cut n rest) k))) b n 0 wide
-      (λ k h. sym (ap (λ bs. sub G (at b k) (total G (column bs k))) none ∙ (algebra laws).sub_zero (at b k) (code_at G laws b so.codes k)))
-      ∙ so.is
+      fill_by_all (λ k. fold G.add (at b k) (column (cut n rest) k)) b n 0 wide (λ k h. sym (ap (λ bs. fold G.add (at b k) (column bs k)) none)) ∙ so.is
+
+  -- from nothing on, they come to the totals
+  pub summing_zeros : (n : ℕ) (b others : List ℕ) → b ≡ replicate n 0 → summed G n b others ≡ each n (λ k. total G (column (cut n others) k))
+  summing_zeros n b others e =
+      each_same n _ _ (λ k h. ap (λ x. fold G.add x (column (cut n others) k)) (ap (λ xs. at xs k) e ∙ get_or-replicate n k 0 0 h))

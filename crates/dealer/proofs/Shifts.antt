@@ -4,11 +4,11 @@ use borrow.Rule.Slice.PartMut.{put_mid}
 use Rattle.groups.specs.Group.{Group, Laws, sub}
 use Rattle.model.specs.Words.{at, each, Below}
 use Rattle.model.specs.Net.{Net, lookup_at}
-use Rattle.model.specs.Deal.{cells, columns, cell, owed_at, owned, own_masks}
+use Rattle.model.specs.Deal.{cells, columns, cell, owned, own_masks}
 use Rattle.model.specs.Shifted.{moved_masks, shifted_share, shifted_part}
 use Rattle.model.proofs.Listed.{at_each}
-use Rattle.dealer.proofs.Places.{Written, written_between, written_at, written_all, each_same, at_piece}
-use Rattle.dealer.proofs.Tables.{owed_cell, owed_output}
+use Rattle.dealer.proofs.Places.{each_same, at_piece}
+use Rattle.dealer.proofs.Tables.{owed_cell, owed_output, block_written}
 
 module _ (G : Group) (ms ds : List ℕ) where
   -- the moved mask of a wire
@@ -34,20 +34,11 @@ module _ (G : Group) (ms ds : List ℕ) where
         → outs ≡ each (length net.outputs) (λ i. G.add (at (take (length block - start) (drop start block)) i) (sub G (at (moved_masks G ms ds) (at net.outputs i)) (at ms (at net.outputs i))))
         → put_mid start (length block - start) block outs ≡ each (columns net) (shifted shares)
     block_shifted was shares block outs start is wide long same done left value =
-        let f = shifted was in
-        let begun : Written f was block start =
-        record {
-          done = λ k l.
-              let inside : k < cells net = omega arith in
-              done k inside ∙ ap (G.add (at was k)) (ap₂ (sub G) (sym (owed_cell G net (moved_masks G ms ds) k inside)) (sym (owed_cell G net ms k inside)));
-          left = λ k l. left k (omega arith);
-        } in
-        let all = written_between f was block outs start (length block) (length net.outputs) _ begun (omega arith) (omega arith) value
-        (λ i h.
-        ap₂ G.add (written_at f was block start (length block - start) i begun (omega arith))
-        (ap₂ (sub G) (sym (owed_output G net (moved_masks G ms ds) i)) (sym (owed_output G net ms i)))
-        ∙ ap (λ n. G.add (at was (start + i)) (sub G (owed_at G net (moved_masks G ms ds) (n + i)) (owed_at G net ms (n + i)))) (sym is)) in
-        written_all f was _ (length block) (columns net) all long (omega arith) ∙ ap (λ xs. each (columns net) (shifted xs)) same
+        let moved = moved_masks G ms ds in
+        block_written net (λ k share. shifted_share G net ms ds share k) was block outs start is wide long
+        (λ k l. done k l ∙ ap (G.add (at was k)) (ap₂ (sub G) (sym (owed_cell G net moved k l)) (sym (owed_cell G net ms k l)))) left
+        (value ∙ each_same (length net.outputs) _ _ (λ i h. ap (G.add (at (take (length block - start) (drop start block)) i)) (ap₂ (sub G) (sym (owed_output G net moved i)) (sym (owed_output G net ms i)))))
+        ∙ ap (λ xs. each (columns net) (shifted xs)) same
 
   -- the own masks, and then the block
   pub part_shifted : (net : Net) (h : ℕ) (part mine front block : List ℕ) (own n : ℕ) → own ≡ owned h net.owners → n ≡ columns net

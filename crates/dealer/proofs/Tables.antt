@@ -1,18 +1,16 @@
 -- The cells of LOOK gates, and what is owed at them.
-use Rattle.std.proofs.Common.{◌≡◌, ℕ, suc, ◌+◌, ◌-◌, ◌*◌, ◌/◌, ◌%◌, ◌<◌, ◌≤◌, ltb, eqb, ◌&&◌, cond, List, [], ◌∷◌, length, take, drop, sym, ap, ◌∙◌, subst, ap₂, suc-mul, arith}
-use Rattle.std.proofs.lemmas.List.{length-map, get_or-map}
+use Rattle.std.proofs.Common.{◌≡◌, ℕ, suc, ◌+◌, ◌-◌, ◌*◌, ◌/◌, ◌%◌, ◌<◌, ◌≤◌, ltb, List, [], ◌∷◌, length, take, drop, sym, ap, ◌∙◌, subst, ap₂, suc-mul, arith}
 use borrow.Rule.Slice.PartMut.{put_mid}
 use Rattle.std.proofs.lemmas.Nat.{mul-le, div-mul-add, mod-mul-add}
-use Rattle.std.proofs.lemmas.List.FromFn.{fill_by_all}
-use Rattle.std.proofs.lemmas.Bool.{lt-ltb, le-ltb, eq-eqb, and_from, cond-true, cond-false}
-use Rattle.groups.specs.Group.{Group}
+use Rattle.std.proofs.lemmas.Bool.{lt-ltb, le-ltb, cond-true, cond-false}
+use Rattle.groups.specs.Group.{Group, sub}
 use Rattle.model.specs.Words.{at, each}
-use Rattle.model.specs.Net.{Net, Lookup, Valid, look_total, wires, lookups, lookup_at}
+use Rattle.model.specs.Net.{Net, Lookup, Valid, look_total, lookups, lookup_at}
 use Rattle.model.specs.Deal.{cells, columns, cell, owed_at, owed}
-use Rattle.model.specs.Clear.{outputs_of}
 use Rattle.circuits.proofs.Looked.{look_wired, look_turn, look_end}
 use Rattle.dealer.specs.Looks.{Within}
-use Rattle.dealer.proofs.Places.{Written, written_between, written_at, written_all}
+use Rattle.model.proofs.Listed.{at_each}
+use Rattle.dealer.proofs.Places.{Written, written_between, written_at, written_all, each_same}
 
 -- what a loop over the LOOK gates makes of cell k
 abbrev pub cell_by : Net → (Lookup → ℕ → ℕ → ℕ) → List ℕ → ℕ → ℕ
@@ -97,24 +95,29 @@ module _ (G : Group) (net : Net) (m : List ℕ) where
       cond-false (ltb k (cells net)) (cell G net m (lookup_at net (k / net.size)) (k % net.size)) (at m (at net.outputs (k - cells net))) (le-ltb k (cells net) (omega arith))
       ∙ ap (λ n. at m (at net.outputs n)) back
 
-  -- the masks of the outputs
-  outputs_each : outputs_of net m ≡ each (length net.outputs) (λ i. at m (at net.outputs i))
-  outputs_each = fill_by_all (λ i. at m (at net.outputs i)) (outputs_of net m) (length net.outputs) 0 (length-map net.outputs (at m)) (λ i h. get_or-map (at m) net.outputs i 0 0 h)
+-- A block is written, its cells first and then its outputs.
+pub block_written : (net : Net) (f : ℕ → ℕ → ℕ) (was block outs : List ℕ) (start : ℕ) → start ≡ cells net → length block ≡ columns net
+    → length (put_mid start (length block - start) block outs) ≡ columns net
+    → ((k : ℕ) → k < cells net → at block k ≡ f k (at was k)) → ((k : ℕ) → cells net ≤ k → at block k ≡ at was k)
+    → outs ≡ each (length net.outputs) (λ i. f (cells net + i) (at (take (length block - start) (drop start block)) i))
+    → put_mid start (length block - start) block outs ≡ each (columns net) (λ k. f k (at was k))
+block_written net f was block outs start is wide long done left value =
+    let to : ℕ → ℕ = λ k. f k (at was k) in
+    let begun : Written to was block start = record { done = λ k l. done k (omega arith); left = λ k l. left k (omega arith) } in
+    let all = written_between to was block outs start (length block) (length net.outputs) _ begun (omega arith) (omega arith) value
+    (λ i h. ap (f (cells net + i)) (written_at to was block start (length block - start) i begun (omega arith)) ∙ ap (λ n. f (n + i) (at was (start + i))) (sym is)) in
+    written_all to was _ (length block) (columns net) all long (omega arith)
 
-  pub gathered : (xs outs : List ℕ) → length m ≡ wires net → length xs ≡ length net.outputs
-      → outs ≡ cond (eqb (length m) (wires net) && eqb (length xs) (length net.outputs)) (outputs_of net m) xs → outs ≡ outputs_of net m
-  gathered xs outs a b e =
-      e ∙ cond-true _ (outputs_of net m) xs (and_from (eqb (length m) (wires net)) (eqb (length xs) (length net.outputs)) (eq-eqb (length m) (wires net) a) (eq-eqb (length xs) (length net.outputs) b))
-
-  -- the cells, and then the masks of the outputs
-  pub owed_all : (was block outs : List ℕ) (start : ℕ) → start ≡ cells net → length block ≡ columns net → length (put_mid start (length block - start) block outs) ≡ columns net
-      → ((k : ℕ) → k < cells net → at block k ≡ cell G net m (lookup_at net (k / net.size)) (k % net.size))
-      → ((k : ℕ) → cells net ≤ k → at block k ≡ at was k)
-      → outs ≡ outputs_of net m → put_mid start (length block - start) block outs ≡ owed G net m
-  unfolding owed
-  owed_all was block outs start is wide long done left value =
-      let f = owed_at G net m in
-      let begun : Written f was block start = record { done = λ k l. let inside : k < cells net = omega arith in done k inside ∙ sym (owed_cell k inside); left = λ k l. left k (omega arith) } in
-      let all = written_between f was block outs start (length block) (length net.outputs) _ begun (omega arith) (omega arith) (value ∙ outputs_each)
-      (λ i h. sym (owed_output i) ∙ ap (λ n. owed_at G net m (n + i)) (sym is)) in
-      written_all f was _ (length block) (columns net) all long (omega arith)
+-- every column less the sum that stands in its place
+pub lacking_written : (G : Group) (net : Net) (m was block outs : List ℕ) (start : ℕ) → start ≡ cells net → length block ≡ columns net
+    → length (put_mid start (length block - start) block outs) ≡ columns net
+    → ((k : ℕ) → k < cells net → at block k ≡ sub G (cell G net m (lookup_at net (k / net.size)) (k % net.size)) (at was k))
+    → ((k : ℕ) → cells net ≤ k → at block k ≡ at was k)
+    → outs ≡ each (length net.outputs) (λ i. sub G (at m (at net.outputs i)) (at (take (length block - start) (drop start block)) i))
+    → put_mid start (length block - start) block outs ≡ each (columns net) (λ k. sub G (at (owed G net m) k) (at was k))
+unfolding owed
+lacking_written G net m was block outs start is wide long done left value =
+    block_written net (λ k. sub G (owed_at G net m k)) was block outs start is wide long
+    (λ k l. done k l ∙ ap (λ x. sub G x (at was k)) (sym (owed_cell G net m k l))) left
+    (value ∙ each_same (length net.outputs) _ _ (λ i h. ap (λ x. sub G x (at (take (length block - start) (drop start block)) i)) (sym (owed_output G net m i))))
+    ∙ each_same (columns net) _ _ (λ k l. ap (λ x. sub G x (at was k)) (sym (at_each (columns net) (owed_at G net m) k l)))

@@ -31,7 +31,10 @@ pub(crate) fn owned(owners: &[u8], party: u8) -> usize
     ensures is { result ≡ owned_by party owners.now }
     ensures within { result ≤ length owners.now }
 {
-    owners.iter().filter(|owner| **owner == party).count()
+    owners
+        .iter()
+        .map(|owner| usize::from(*owner == party))
+        .sum()
 }
 
 /// How many numbers a tape has.

@@ -1,6 +1,7 @@
-// The masks of all wires of a circuit over a group, and what the shares of each column come to under them.
+// The masks of all wires of a circuit over a group, and what shares lack of what is owed under them.
 ghost use Rattle.std.specs.Prelude.{◌≡◌, ℕ, ◌<◌, length};
-ghost use Rattle.model.specs.Words.{Below};
+ghost use Rattle.groups.specs.Group.{sub};
+ghost use Rattle.model.specs.Words.{at, each, Below};
 ghost use Rattle.model.specs.Net.{wires};
 ghost use Rattle.model.specs.Deal.{columns, cell, owed};
 ghost use Rattle.circuits.specs.Circuits.{net};
@@ -32,31 +33,42 @@ impl<'a, G: MaskGroup> Masked<'a, G> {
         MaskedTable::new(self.over, look, operand, self.masks[look.wire])
     }
 
-    // Writes what the shares of every column come to.
-    pub(crate) fn write_owed(&self, block: &mut [u8])
+    // Takes the sum that stands in each place of a block from what the shares of its column come to.
+    pub(crate) fn write_lacking(&self, block: &mut [u8])
         requires places { length block.old ≡ columns (net self.now.over.now.circuit.now) }
-        ensures { block.new ≡ owed (G.means self.now.over.now.group.now) (net self.now.over.now.circuit.now) self.now.masks.now }
+        ensures { let group = G.means self.now.over.now.group.now in let circuit = net self.now.over.now.circuit.now in block.new ≡ each (columns circuit) (λ k. sub group (at (owed group circuit self.now.masks.now) k) (at block.old k)) }
     {
         self.write_all_cells(block);
-        let outputs = &mut block[cell_count(self.over.circuit)..];
-        self.over.circuit.gather_outputs(self.masks, outputs);
+        self.write_lacking_outputs(&mut block[cell_count(self.over.circuit)..]);
+    }
+
+    // The same for the outputs, whose shares come to their masks.
+    fn write_lacking_outputs(&self, places: &mut [u8])
+        requires { length places.old ≡ length (net self.now.over.now.circuit.now).outputs }
+        ensures { let group = G.means self.now.over.now.group.now in let outputs = (net self.now.over.now.circuit.now).outputs in places.new ≡ each (length outputs) (λ i. sub group (at self.now.masks.now (at outputs i)) (at places.old i)) }
+    {
+        // By the place's number: nothing is known of what a loop over `places.iter_mut().zip(..)` wrote.
+        for (i, wire) in self.over.circuit.outputs().iter().enumerate() {
+            let mask = self.masks[usize::from(*wire)];
+            places[i] = self.over.group.subtract(mask, places[i]);
+        }
     }
 }
 
 impl<G: MaskGroup> WritesCells for Masked<'_, G> {
     ghost parts = { λ s. net s.over.now.circuit.now };
 
-    ghost becomes = { λ s k j was. cell (G.means s.over.now.group.now) (net s.over.now.circuit.now) s.masks.now k j };
+    ghost becomes = { λ s k j was. let group = G.means s.over.now.group.now in sub group (cell group (net s.over.now.circuit.now) s.masks.now k j) was };
 
     fn circuit(&self) -> &Circuit<'_> {
         self.over.circuit
     }
 
-    // Writes the masked table.
+    // Takes the sum that stands in each cell from what the masked table has there.
     fn write_cells(&self, look: &Lookup, cells: &mut [u8]) {
         let table = self.table(look);
         for (j, cell) in cells.iter_mut().enumerate() {
-            *cell = table.cell(j as u8);
+            *cell = self.over.group.subtract(table.cell(j as u8), *cell);
         }
     }
 }

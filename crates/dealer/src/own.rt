@@ -9,12 +9,13 @@ pub(crate) fn copy_own(owners: &[u8], masks: &[u8], party: u8, part: &mut [u8])
     requires room { owned party owners.now ≤ length part.old }
     ensures { take (owned party owners.now) part.new ≡ own_masks party owners.now masks.now }
 {
-    let own = owners
-        .iter()
-        .zip(masks)
-        .filter(|(owner, _)| **owner == party);
-    // By the slot's number: nothing is known of what a loop over `part.iter_mut().zip(own)` wrote.
-    for (slot, (_, mask)) in own.enumerate() {
-        part[slot] = *mask;
+    let mut slot = 0;
+    // A plain loop: with an iterator that filters the owners beside their masks, PART took up to twice the time where there are many
+    // inputs and little else.
+    for (i, owner) in owners.iter().enumerate() {
+        if *owner == party {
+            part[slot] = masks[i];
+            slot += 1;
+        }
     }
 }

@@ -7,7 +7,7 @@ use Rattle.refusals.specs.Tests.{unless, before}
 use Rattle.files.specs.Format.{header_of}
 use Rattle.files.specs.Faults.{length_fault, counts_fault, pairs_fault, places_fault, sections_fault, fault}
 
-passes : (t rest : Option Refusal) {r : Option Refusal} → t ≡ None → rest ≡ r → before t rest ≡ r
+pub passes : (t rest : Option Refusal) {r : Option Refusal} → t ≡ None → rest ≡ r → before t rest ≡ r
 passes t rest e f = ap (λ x. before x rest) e ∙ f
 
 last : (t : Option Refusal) {r : Option Refusal} → t ≡ r → before t None ≡ r

@@ -24,7 +24,7 @@ module _ {X : Type 0} (f : X → ℕ) (w o high : ℕ) where
       let e : o ≡ o + w * 0 = omega arith in
       ap (λ n. beyond w n high (map f xs)) e ∙ from 0 xs ∙ ap (option_map (λ k. o + w * k)) (sym (position_from-zero (λ x. leb high (f x)) xs))
 
-numbers_none : (xs : List ℕ) → length xs < 2 → numbers xs ≡ []
+pub numbers_none : (xs : List ℕ) → length xs < 2 → numbers xs ≡ []
 numbers_none [] h = refl
 numbers_none (a ∷ []) h = refl
 numbers_none (a ∷ b ∷ rest) h = absurd (omega arith)

@@ -1,38 +1,48 @@
-use Rattle.std.proofs.Common.{eqb, length, arith, rules, tests}
-use Rattle.std.proofs.lemmas.List.{length_push}
-use Rattle.std.proofs.lemmas.Iterator.{YieldsList-from_zip, YieldsList-from_slice}
-use Rattle.std.proofs.lemmas.Iterator.Consumers.{YieldsList-at, YieldsList-from_filter, YieldsList-from_enumerate, YieldsList-turn, YieldsList-end}
-use Rattle.dealer.proofs.Owned.{own_turn, own_more, own_all}
+use Rattle.std.proofs.Common.{◌+◌, ◌<◌, ◌++◌, length, take, drop, sym, ap, ◌∙◌, ap₂, arith}
+use Rattle.std.proofs.lemmas.List.{take_all}
+use Rattle.model.specs.Deal.{owned, own_masks}
+use Rattle.dealer.proofs.Owned.{owned_yes, owned_no, owned_below, copied_yes, copied_no, copied_all}
 use Rattle.dealer.proofs.own.copy_own.Goals as goal
+use Rattle.dealer.proofs.own.copy_own.Goals.{then-owner-party, else-owner-party}
 
 pub bounds-part-slot : goal.bounds-part-slot
 bounds-part-slot c =
-    let t = YieldsList-turn (YieldsList-at c.into_iter-slot-iterator.ensures.into_iter_gives
-    (YieldsList-from_enumerate (YieldsList-at c.enumerate-slot-items.ensures.source
-    (YieldsList-from_filter _ (λ p. eqb p.0 c.args.party) (YieldsList-at c.filter-own.ensures.source
-    (YieldsList-from_zip (YieldsList-at c.zip.ensures.first (YieldsList-from_slice c.args.owners.now c.iter.ensures.rest)) (YieldsList-from_slice {s = c.zip.result.b} c.args.masks.now c.zip.ensures.second.0)))
-    c.filter-own.ensures.closure (λ x r q k. search (rules, tests)))) c.enumerate-slot-items.ensures.count))
-    c.loop-slot.yielded c.loop-slot.slot-iterator c.loop-slot.yielded_by c.next.result c.next.new.self (c.in-Some.slot, (c.in-Some.field-0-1-0, c.in-Some.mask)) c.in-Some.is c.next.ensures.steps in
-    let own = own_turn c.args.party c.args.owners.now c.args.masks.now c.requires.masks (length c.loop-slot.yielded) _ t.0 t.1 in
+    let b = owned_below c.args.party c.args.owners.now c.loop-i.i c.loop-i-test.true c.if-owner-party.true in
     omega (arith, c.requires.room)
 
-pub loop-slot-preserved : goal.loop-slot-preserved
-loop-slot-preserved c =
-    let t = YieldsList-turn (YieldsList-at c.into_iter-slot-iterator.ensures.into_iter_gives
-    (YieldsList-from_enumerate (YieldsList-at c.enumerate-slot-items.ensures.source
-    (YieldsList-from_filter _ (λ p. eqb p.0 c.args.party) (YieldsList-at c.filter-own.ensures.source
-    (YieldsList-from_zip (YieldsList-at c.zip.ensures.first (YieldsList-from_slice c.args.owners.now c.iter.ensures.rest)) (YieldsList-from_slice {s = c.zip.result.b} c.args.masks.now c.zip.ensures.second.0)))
-    c.filter-own.ensures.closure (λ x r q k. search (rules, tests)))) c.enumerate-slot-items.ensures.count))
-    c.loop-slot.yielded c.loop-slot.slot-iterator c.loop-slot.yielded_by c.next.result c.next.new.self (c.in-Some.slot, (c.in-Some.field-0-1-0, c.in-Some.mask)) c.in-Some.is c.next.ensures.steps in
-    let own = own_turn c.args.party c.args.owners.now c.args.masks.now c.requires.masks (length c.loop-slot.yielded) _ t.0 t.1 in
-    own_more c.args.party c.args.owners.now c.args.masks.now c.requires.masks (length c.loop-slot.yielded) _ c.in-Some.slot c.in-Some.mask.now c.loop-slot.part own (omega (arith, c.requires.room))
-    (length_push c.loop-slot.yielded (c.in-Some.slot, (c.in-Some.field-0-1-0, c.in-Some.mask))) c.loop-slot.invariant
+pub loop-i-preserved : goal.loop-i-preserved
+loop-i-preserved c =
+    let h = c.args.party in
+    let os = c.args.owners.now in
+    let ms = c.args.masks.now in
+    let i = c.loop-i.i in
+    let in_os = c.loop-i-test.true in
+    let in_ms : i < length ms = omega (arith, c.requires.masks) in
+    let all = own_masks h os ms in
+    let left = own_masks h (drop (i + 1) os) (drop (i + 1) ms) in
+    elim c.if-owner-party.branch [
+      | then-owner-party w ↦
+          let own = w.if-owner-party.true in
+          let more = owned_yes h os i in_os own in
+          let below = owned_below h os i in_os own in
+          let room : c.loop-i.slot < length c.loop-i.part = omega (arith, c.requires.room) in (
+            omega (arith, w.slot-is),
+            omega (arith, w.slot-is),
+            ap₂ (λ n xs. take n xs ++ left) w.slot-is w.part-is ∙ copied_yes h os ms i in_os in_ms c.loop-i.part all c.loop-i.slot room own c.loop-i.invariant.2,
+          )
+      | else-owner-party w ↦
+          let other = w.if-owner-party.false in
+          let more = owned_no h os i in_os other in (
+            omega (arith, w.slot-is),
+            omega (arith, w.slot-is),
+            ap₂ (λ n xs. take n xs ++ left) w.slot-is w.part-is ∙ copied_no h os ms i in_os in_ms c.loop-i.part all c.loop-i.slot other c.loop-i.invariant.2,
+          )
+    ]
 
 pub returns : goal.returns
 returns c =
-    let e = YieldsList-end (YieldsList-at c.into_iter-slot-iterator.ensures.into_iter_gives
-    (YieldsList-from_enumerate (YieldsList-at c.enumerate-slot-items.ensures.source
-    (YieldsList-from_filter _ (λ p. eqb p.0 c.args.party) (YieldsList-at c.filter-own.ensures.source
-    (YieldsList-from_zip (YieldsList-at c.zip.ensures.first (YieldsList-from_slice c.args.owners.now c.iter.ensures.rest)) (YieldsList-from_slice {s = c.zip.result.b} c.args.masks.now c.zip.ensures.second.0)))
-    c.filter-own.ensures.closure (λ x r q k. search (rules, tests)))) c.enumerate-slot-items.ensures.count)) c.loop-slot.yielded c.loop-slot.slot-iterator c.loop-slot.yielded_by c.next.result c.next.new.self c.in-None.is c.next.ensures.steps in
-    own_all c.args.party c.args.owners.now c.args.masks.now c.requires.masks (length c.loop-slot.yielded) c.loop-slot.part e.1 c.loop-slot.invariant
+    let h = c.args.party in
+    let os = c.args.owners.now in
+    let i = c.loop-i.i in
+    let count = c.loop-i.invariant.0 ∙ ap (owned h) (take_all i os c.loop-i-test.false) in
+    ap (λ n. take n c.loop-i.part) (sym count) ∙ copied_all h os c.args.masks.now i c.loop-i.part _ c.loop-i.slot c.loop-i-test.false c.loop-i.invariant.2
